@@ -21,6 +21,15 @@ pub fn put(out: &mut [u8], at: usize, source: &[u8]) -> usize
     end
 }
 
+/// Writes the eight bytes of `number` likewise.
+pub fn put_u64(out: &mut [u8], at: usize, number: u64) -> usize
+    requires { ⌜ at + 8 ≤ length (now out) ⌝ }
+    ensures after { λ _. ⌜ now (out .exit) ≡ overlaid (now (out .entry)) at (bytes64 number) ⌝ }
+    ensures end { λ r. ⌜ r ≡ at + 8 ⌝ }
+{
+    put(out, at, &number.to_be_bytes())
+}
+
 /// The 32-bit number that `text` begins with, and what follows it.
 pub fn read_u32(text: &[u8]) -> Option<(u32, &[u8])>
     ensures { λ r. ⌜ Front Fits32 bytes32 (now (text .entry)) r ⌝ }

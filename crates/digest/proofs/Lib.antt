@@ -1,0 +1,4 @@
+pub mod Schedules
+pub mod Chains
+pub mod Writes
+pub mod Messages

@@ -1,0 +1,5 @@
+pub mod Words
+pub mod Block
+pub mod Hash
+pub mod Vectors
+pub mod Hex

@@ -1,0 +1,4 @@
+pub mod BodyParts
+pub mod BodyWrites
+pub mod OneOperation
+pub mod OperationTurns

@@ -1,0 +1,4 @@
+pub mod Bodies
+pub mod Naming
+pub mod OperationLists
+pub mod Operations

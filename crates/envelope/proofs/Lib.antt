@@ -1,0 +1,3 @@
+pub mod Envelopes
+pub mod SequenceWrites
+pub mod Sequences

@@ -42,8 +42,11 @@ pub record BodyFits (b : BodyModel) : Type 0 where
   pub apart : writesApart (b .operations) ≡ true
 
 -- the nonce, how many operations there are, and the operations
+abbrev pub contentsOf : ℕ → List Operation → List ℕ
+contentsOf nonce os = bytes64 nonce ++ (length os ∷ joined operationBytes os)
+
 abbrev pub bodyContents : BodyModel → List ℕ
-bodyContents b = bytes64 (b .nonce) ++ (length (b .operations) ∷ joined operationBytes (b .operations))
+bodyContents b = contentsOf (b .nonce) (b .operations)
 
 -- bodies as a kind of message
 abbrev pub bodyFormat : Format BodyModel
@@ -55,11 +58,6 @@ ReadsOperations n bs (Some o) =
     (length (listed o) ≡ n) × All OperationFits (listed o) × (bs ≡ joined operationBytes (listed o))
 ReadsOperations n bs None =
     (os : List Operation) → length os ≡ n → All OperationFits os → bs ≡ joined operationBytes os → ⊥
-
--- the body that bs, which stands after the kind byte, says; or bs says no body
-abbrev pub ReadsContents : List ℕ → Option Body → Type 0
-ReadsContents bs (Some b) = BodyFits (bodyModel b) × (bs ≡ bodyContents (bodyModel b))
-ReadsContents bs None = (b : BodyModel) → BodyFits b → bs ≡ bodyContents b → ⊥
 
 -- the body that is made of these parts; where it would not be well formed there is none
 abbrev pub Made : BodyModel → Result Body ReadFault → Type 0

@@ -6,15 +6,20 @@ use Prim.Native.Nat.{ℕ, _+_, _-_, _*_, _/_, _%_, _<_, _≤_}
 use native.Mathlib.Omega.{arith}
 use lib.Dec.{eqb, leb}
 use lib.ListN.{length, getD, take, drop}
+use mir.Syntax.{w8}
+use mir.Val.{Fits}
+use Rattle.std.specs.declared.option.Option.the-variants.{Some, None}
 use Rattle.std.specs.declared.result.Result.{Result}
 use Rattle.std.specs.declared.result.Result.the-variants.{Ok, Err}
 use Rattle.std.proofs.shelf.Lists.{take-all}
 use Rattle.std.proofs.shelf.Tests.{and-from, and-parts, cond-false, cond-true, eq-eqb, eqb-true, le-leb, leb-true, lt-leb}
 use Rattle.bytes.specs.Buffers.{overlaid}
 use Rattle.bytes.proofs.Begins.{begins}
-use Rattle.envelope.specs.Formats.{Format, OneWriting, Reads, RoundTrip, Writing, writeAfter, writeAnswer, written}
-use Rattle.envelope.specs.Messages.{Short, largestMessage, message}
+use Rattle.bytes.proofs.Overlays.{overlaid-more}
+use Rattle.envelope.specs.Formats.{Format, OneWriting, Reads, ReadsContents, RoundTrip, Writing, writeAfter, writeAnswer, written}
+use Rattle.envelope.specs.Messages.{Short, header, largestMessage, message}
 use Rattle.envelope.specs.declared.fault.ReadFault.{ReadFault}
+use Rattle.envelope.specs.declared.fault.ReadFault.the-variants.{Malformed}
 use Rattle.envelope.specs.declared.fault.WriteFault.the-variants.{ShortBuffer}
 
 -- what follows the first four bytes, as a slice pattern cuts it off
@@ -66,12 +71,12 @@ module _ {X : Type 0} (F : Format X) (bs : List ℕ) where
     opened = begins bs (getD bs 0 0 ∷ getD bs 1 0 ∷ 1 ∷ getD bs 3 0 ∷ []) long (refl, (refl, (version, (refl, tt))))
 
     -- what follows the first four bytes of a message is its contents
-    pub contents-of : (x : X) → Writing F bs x → rest-of bs ≡ F .contents x
+    contents-of : (x : X) → Writing F bs x → rest-of bs ≡ F .contents x
     unfolding written
     contents-of x w = let e = w .whole in cc (opened, e)
 
     -- bytes that pass the tests, and whose rest is the contents of something well formed, are its writing
-    pub is-writing : ((i : ℕ) → getD bs i 0 < 256) → true ≡ isMessage bs (F .kind) → (x : X) → F .Fits x
+    is-writing : ((i : ℕ) → getD bs i 0 < 256) → true ≡ isMessage bs (F .kind) → (x : X) → F .Fits x
         → rest-of bs ≡ F .contents x → Writing F bs x
     unfolding written
     is-writing typed test x fits same =
@@ -87,23 +92,37 @@ module _ {X : Type 0} (F : Format X) (bs : List ℕ) where
         let whole : bs ≡ message (F .kind) (rest-of bs) = cc (opened, kind, high, low) in
         record { fits = fits; short = subst Short same short; whole = whole ∙ ap (message (F .kind)) same }
 
+    -- the contents that were read make the message, and where there are none, there is no message
+    pub reads-some : {C : Type 0} (model : C → X) (c : C) → ((i : ℕ) → Fits w8 (getD bs i 0))
+        → true ≡ isMessage bs (F .kind) → ReadsContents F model (rest-of bs) (Some c) → Reads F model bs (Ok c)
+    reads-some model c typed test read =
+        is-writing (λ i. let t = typed i in omega arith) test (model c) (read .0) (read .1)
+
+    pub reads-none : {C : Type 0} (model : C → X) → ReadsContents F model (rest-of bs) None
+        → Reads F model bs (Err Malformed)
+    reads-none model none = (refl, λ x w. none x (w .fits) (contents-of x w))
+
 -- one writing for each thing, so reading undoes writing
 pub round-trip : {C X : Type 0} (F : Format X) (model : C → X) → OneWriting F → RoundTrip F model
 round-trip F model one x bs (Ok c) w r = (c, refl, one (model c) x (r .fits) (w .fits) (sym (r .whole) ∙ w .whole))
 round-trip F model one x bs (Err f) w r = absurd (r .1 x w)
 
--- a buffer that is too short for the text
-module _ (text out : List ℕ) (short : length out < length text) where
-  pub refuses : Err ShortBuffer ≡ writeAnswer text out
-  refuses = sym (cond-false _ _ _ (lt-leb _ _ short))
+-- what a writer leaves where the contents have so many bytes
+module _ {X : Type 0} (F : Format X) (x : X) (out : List ℕ) (size : ℕ) (is : size ≡ length (F .contents x)) where
+  pub refuses : length out < 4 + size
+      → (Err ShortBuffer ≡ writeAnswer (written F x) out) × (out ≡ writeAfter (written F x) out)
+  refuses short =
+      let test = lt-leb (length (written F x)) (length out) (omega (arith, length-written F x)) in
+      (sym (cond-false _ _ _ test), sym (cond-false _ _ _ test))
 
-  pub untouched : out ≡ writeAfter text out
-  untouched = sym (cond-false _ _ _ (lt-leb _ _ short))
-
--- a buffer with space for the text
-module _ (text out : List ℕ) (long : length text ≤ length out) where
-  pub answers : (n : ℕ) → n ≡ length text → Ok n ≡ writeAnswer text out
-  answers n is = ap Ok is ∙ sym (cond-true _ _ _ (le-leb _ _ long))
-
-  pub filled : (after : List ℕ) → after ≡ overlaid out 0 text → after ≡ writeAfter text out
-  filled after is = is ∙ sym (cond-true _ _ _ (le-leb _ _ long))
+  -- the header and then the contents were written
+  pub writes : (first last : List ℕ) (at end : ℕ) → 4 + size ≤ length out → first ≡ overlaid out 0 (header (F .kind) size)
+      → at ≡ 4 → last ≡ overlaid first at (F .contents x) → end ≡ at + length (F .contents x)
+      → (Ok end ≡ writeAnswer (written F x) out) × (last ≡ writeAfter (written F x) out)
+  unfolding written
+  writes first last at end long e₁ p e₂ n =
+      let test = le-leb (length (written F x)) (length out) (omega (arith, length-written F x)) in
+      let full = length-written F x in
+      let whole = overlaid-more out (header (F .kind) size) (F .contents x) first _ last 0 at (omega arith) e₁ p refl e₂ in
+      let same = ap (λ k. overlaid out 0 (header (F .kind) k ++ F .contents x)) is in
+      (ap Ok (omega (arith, full)) ∙ sym (cond-true _ _ _ test), whole ∙ same ∙ sym (cond-true _ _ _ test))

@@ -5,6 +5,8 @@ use mathlib.Core.List.{List}
 use Prim.Native.Nat.{ℕ}
 use lib.Dec.{leb}
 use lib.ListN.{length}
+use Rattle.std.specs.declared.option.Option.{Option}
+use Rattle.std.specs.declared.option.Option.the-variants.{Some, None}
 use Rattle.std.specs.declared.result.Result.{Result}
 use Rattle.std.specs.declared.result.Result.the-variants.{Ok, Err}
 use Rattle.bytes.specs.Buffers.{overlaid}
@@ -29,6 +31,11 @@ pub record Writing {X : Type 0} (F : Format X) (bs : List ℕ) (x : X) : Type 0 
   pub fits : F .Fits x
   pub short : Short (F .contents x)
   pub whole : bs ≡ written F x
+
+-- what was read says what bs, which stands after the kind byte, is the contents of; or bs is the contents of nothing
+abbrev pub ReadsContents : {C X : Type 0} → Format X → (C → X) → List ℕ → Option C → Type 0
+ReadsContents F model bs (Some c) = F .Fits (model c) × (bs ≡ F .contents (model c))
+ReadsContents {C} {X} F model bs None = (x : X) → F .Fits x → bs ≡ F .contents x → ⊥
 
 -- what was read says what bs is the writing of; where bs is malformed it is the writing of nothing
 abbrev pub Reads : {C X : Type 0} → Format X → (C → X) → List ℕ → Result C ReadFault → Type 0

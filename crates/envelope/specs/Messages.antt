@@ -16,6 +16,15 @@ version = 1
 abbrev pub bodyKind : ℕ
 bodyKind = 1
 
+abbrev pub certificateKind : ℕ
+certificateKind = 2
+
+abbrev pub proposalKind : ℕ
+proposalKind = 3
+
+abbrev pub answerKind : ℕ
+answerKind = 4
+
 -- the first four bytes of a message of a kind that brings so many more: they count themselves but for the length
 abbrev pub header : ℕ → ℕ → List ℕ
 header kind size = bigEndian 2 (size + 2) ++ (version ∷ kind ∷ [])

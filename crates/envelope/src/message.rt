@@ -20,6 +20,15 @@ pub const VERSION: u8 = 1;
 /// The kind byte of a body.
 pub const BODY_KIND: u8 = 1;
 
+/// The kind byte of a certificate.
+pub const CERTIFICATE_KIND: u8 = 2;
+
+/// The kind byte of a proposal to abort.
+pub const PROPOSAL_KIND: u8 = 3;
+
+/// The kind byte of an answer.
+pub const ANSWER_KIND: u8 = 4;
+
 /// Whether a message of this length and kind, with this rest, is one of the kind that is sought and not too long.
 pub fn is_message(sought: u8, high: u8, low: u8, kind: u8, rest: &[u8]) -> bool
     ensures { λ r. ⌜ r ≡ (eqb kind sought && (leb (length (now (rest .entry)) + 4) largestMessage && eqb (high * 256 + low) (length (now (rest .entry)) + 2))) ⌝ }

@@ -1,7 +1,7 @@
 // Reads a body.
 ghost use Prim.Native.Nat.{_≤_};
-ghost use Rattle.bodies.specs.Bodies.{ReadsContents, ReadsOperations, bodyFormat, bodyModel, mostOperations};
-ghost use Rattle.envelope.specs.Formats.{OneWriting, Reads, RoundTrip};
+ghost use Rattle.bodies.specs.Bodies.{ReadsOperations, bodyFormat, bodyModel, mostOperations};
+ghost use Rattle.envelope.specs.Formats.{OneWriting, Reads, ReadsContents, RoundTrip};
 use crate::body::Body;
 use crate::operation::read_operation;
 use crate::operations::MOST_OPERATIONS;
@@ -33,7 +33,7 @@ fn read_operations(count: u8, text: &[u8]) -> Option<Operations>
 
 // The body that `text`, which follows the kind byte, is.
 fn read_contents(text: &[u8]) -> Option<Body>
-    ensures { λ r. ⌜ ReadsContents (now (text .entry)) r ⌝ }
+    ensures { λ r. ⌜ ReadsContents bodyFormat bodyModel (now (text .entry)) r ⌝ }
 {
     let (nonce, rest) = read_u64(text)?;
     let [count, rest @ ..] = rest else {

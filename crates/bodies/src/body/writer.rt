@@ -4,7 +4,7 @@ ghost use Prim.Native.Nat.{_+_, _≤_};
 ghost use lib.ListN.{length};
 ghost use Rattle.std.specs.shelf.Lists.{All, joined};
 ghost use Rattle.bytes.specs.Buffers.{overlaid};
-ghost use Rattle.bodies.specs.Bodies.{BodyFits, bodyFormat, bodyModel, mostOperations};
+ghost use Rattle.bodies.specs.Bodies.{BodyFits, bodyFormat, bodyModel, contentsOf, mostOperations};
 ghost use Rattle.envelope.specs.Formats.{writeAfter, writeAnswer, written};
 ghost use Rattle.bodies.specs.Operations.{OperationFits, operationBytes};
 use crate::body::Body;
@@ -45,6 +45,17 @@ fn write_operations(out: &mut [u8], at: usize, operations: &[Operation]) -> usiz
     next
 }
 
+// Writes what follows the kind byte into `out` from `at` on, and answers where it ends.
+fn write_contents(out: &mut [u8], at: usize, nonce: u64, operations: &[Operation]) -> usize
+    requires { ⌜ at + length (contentsOf nonce (now operations)) ≤ length (now out) ⌝ ∗ ⌜ length (now operations) ≤ mostOperations ⌝ }
+    ensures after { λ _. ⌜ now (out .exit) ≡ overlaid (now (out .entry)) at (contentsOf nonce (now (operations .entry))) ⌝ }
+    ensures end { λ r. ⌜ r ≡ at + length (contentsOf nonce (now (operations .entry))) ⌝ }
+{
+    let next = put_u64(out, at, nonce);
+    let next = put(out, next, &[operations.len() as u8]);
+    write_operations(out, next, operations)
+}
+
 /// Writes the body's one writing into `out` and answers its length, or refuses and leaves `out` as it was.
 pub fn write_body(body: &Body, out: &mut [u8]) -> Result<usize, WriteFault>
     ensures answer { λ r. ⌜ r ≡ writeAnswer (written bodyFormat (bodyModel (now (body .entry)))) (now (out .entry)) ⌝ }
@@ -58,7 +69,5 @@ pub fn write_body(body: &Body, out: &mut [u8]) -> Result<usize, WriteFault>
         return Err(WriteFault::ShortBuffer);
     }
     let at = write_header(out, BODY_KIND, size);
-    let at = put_u64(out, at, nonce);
-    let at = put(out, at, &[operations.len() as u8]);
-    Ok(write_operations(out, at, operations))
+    Ok(write_contents(out, at, nonce, operations))
 }

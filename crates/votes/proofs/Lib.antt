@@ -1,0 +1,4 @@
+pub mod Bounded
+pub mod EntryTurns
+pub mod GroundParts
+pub mod Tables

@@ -1,0 +1,10 @@
+pub mod Bytes
+pub mod Entries
+pub mod EntryLists
+pub mod Faults
+pub mod Grounds
+pub mod Marks
+pub mod Statements
+pub mod States
+pub mod Values
+pub mod Votes

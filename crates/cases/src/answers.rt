@@ -10,7 +10,7 @@ use wire::answer::reader::read_answer;
 use wire::answer::writer::write_answer;
 
 // The bytes of an answer with these fields, `count` reads and `end` bytes after them.
-fn answer_bytes(
+pub fn answer_bytes(
     heap: Global,
     fields: [u8; 3],
     width: u8,
@@ -38,7 +38,7 @@ fn answer_bytes(
 }
 
 // Vote, state and ground; a mark's length, a count of reads, how many bytes follow, and whether it is well formed.
-const CASES: [([u8; 3], u8, u8, u8, bool); 19] = [
+pub const CASES: [([u8; 3], u8, u8, u8, bool); 19] = [
     // the edges of the vote
     ([0, 1, 0], 32, 1, 0, false),
     ([1, 1, 0], 32, 1, 0, true),

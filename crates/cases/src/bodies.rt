@@ -15,13 +15,13 @@ use wire::read_body;
 use wire::write_body;
 
 // The bytes that are written in hexadecimal.
-fn bytes_of(rt: &LibcRuntime, digits: &str) -> Result<Vec<u8>, Fail> {
+pub fn bytes_of(rt: &LibcRuntime, digits: &str) -> Result<Vec<u8>, Fail> {
     let bytes = decode(rt.alloc(), digits.as_bytes())?.ok_or("no digits")?;
     Ok(bytes)
 }
 
 // A body's bytes and its name.
-const GOOD: [(&str, &str); 5] = [
+pub const GOOD: [(&str, &str); 5] = [
     // the smallest: one read
     (
         "001001010000000000000001010100000004",

@@ -14,7 +14,7 @@ use wire::proposal::write_proposal;
 
 // The bytes of a certificate with this vote and this count, and an entry of group `i * step`, replica 0 for each `i`
 // from `first` on, whose marks have `width` bytes.
-fn certificate_bytes(
+pub fn certificate_bytes(
     heap: Global,
     width: u8,
     vote: u8,
@@ -40,7 +40,7 @@ fn certificate_bytes(
 }
 
 // A mark's length, a vote, a count, the first group, the step to the next, and whether it is well formed.
-const CASES: [(u8, u8, u8, u8, u8, bool); 14] = [
+pub const CASES: [(u8, u8, u8, u8, u8, bool); 14] = [
     // the edges of the vote
     (32, 0, 1, 0, 1, false),
     (32, 1, 1, 0, 1, true),

@@ -1,4 +1,5 @@
-//! Tests that are many: the small input of each refusal, the edges of each range, and worked examples.
+//! Tests that are many: the small input of each refusal, the edges of each range, worked examples, and messages that are
+//! damaged in each byte.
 
 #[cfg(test)]
 mod answers;
@@ -6,3 +7,5 @@ mod answers;
 mod bodies;
 #[cfg(test)]
 mod certificates;
+#[cfg(test)]
+mod damaged;

@@ -1,6 +1,8 @@
 //! Tests that are many: the small input of each refusal, the edges of each range, worked examples, and messages that are
 //! damaged in each byte.
 
+#![tactic(auto)]
+
 #[cfg(test)]
 mod answers;
 #[cfg(test)]

@@ -3,6 +3,8 @@
 //! Both functions take any message, allocate nothing and keep no copy of the message. Their contracts are equations
 //! with the definitions of `specs/Hash.antt`, and `specs/Vectors.antt` holds those definitions to published values.
 
+#![tactic(auto)]
+
 mod block;
 mod message;
 #[cfg(test)]

@@ -3,6 +3,8 @@
 //!
 //! Certificates and answers are read with marks of the two lengths in use: 32 bytes (seals) and 36 (stamps).
 
+#![tactic(auto)]
+
 mod words;
 
 use std::io;

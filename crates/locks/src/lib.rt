@@ -5,6 +5,8 @@
 //! two conflict in a group where both name one of its keys and at least one of them writes it. Only keys of the group are
 //! looked at, but for the groups that a transaction names.
 
+#![tactic(auto)]
+
 pub mod conflict;
 pub mod groups;
 pub mod partition;

@@ -4,6 +4,8 @@
 //! no more marks. Code that uses a scheme is proved from that meaning alone. There are two schemes: stamps, for benches,
 //! and seals, which are HMAC-SHA-256 under a key of the replica.
 
+#![tactic(auto)]
+
 pub mod equal;
 pub mod fault;
 pub mod given;

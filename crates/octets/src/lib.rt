@@ -3,6 +3,8 @@
 //! Every reader and writer of a format here is made of these, so the lemmas on one number's writing and on what a
 //! write leaves alone are proved once, in this crate.
 
+#![tactic(auto)]
+
 ghost use Rattle.std.specs.Prelude.{◌≡◌, ◌+◌, ◌≤◌, length};
 ghost use Rattle.octets.specs.Buffers.{overlaid};
 ghost use Rattle.octets.specs.Fronts.{Front};

@@ -1,4 +1,7 @@
 //! The safety and the progress of a register that is kept by groups of replicas, some of them faulty.
+
+#![tactic(auto)]
+
 ghost use Rattle.protocol.specs.Kinds.{kinds};
 ghost use Rattle.protocol.specs.Agreement.{Agreement};
 ghost use Rattle.protocol.specs.Order.{Order};

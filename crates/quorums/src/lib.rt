@@ -4,6 +4,8 @@
 //! A commit needs the marks of f + 1 replicas of each group that the transaction names, and of no other group; an abort
 //! those of f + 1 replicas of one such group.
 
+#![tactic(auto)]
+
 pub mod genuine;
 pub mod shape;
 pub mod tolerance;

@@ -4,6 +4,8 @@
 //! whole runs) needs the same as functions: `body_of`, `certificate_of`, `proposal_of` and `answer_of`, and `parsed` for
 //! whatever stands on a list. They are definitions in `specs/`; the functions here carry the theorems.
 
+#![tactic(auto)]
+
 ghost use Rattle.std.specs.Prelude.{ℕ};
 ghost use Rattle.bodies.specs.Bodies.{body_format, body_model};
 ghost use Rattle.wire.specs.Answers.{answer_format, answer_model};

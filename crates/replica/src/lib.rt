@@ -4,6 +4,8 @@
 //! and every row, every entry of the book and every pending place after it. Everything is allocated when the replica is
 //! made, so a step cannot want memory.
 
+#![tactic(auto)]
+
 pub mod book;
 mod certificate;
 mod known;

@@ -6,6 +6,8 @@
 //! a buffer for each. Both allocate when they are made and never again, and both keep an index of where messages lie,
 //! so that a question walks over no other message.
 
+#![tactic(auto)]
+
 ghost use Rattle.std.specs.Prelude.{◌≡◌, ℕ, Bool, true, false, ◌&&◌, List, [], ◌∷◌, ◌++◌, length, if◌then◌else◌, ◌==◌};
 ghost use Rattle.std.specs.Option.{option_map};
 ghost use Rattle.std.specs.List.{slice_get};

@@ -5,6 +5,8 @@
 //! table may grow, the free rows stand behind the filled ones. The calls ask that the keys rise, since to test it they
 //! would have to walk all rows; `rises` tests it, and `insert` and `change` keep it.
 
+#![tactic(auto)]
+
 ghost use Rattle.std.specs.Prelude.{◌≡◌, ◌+◌, ◌<◌, ◌≤◌, true, ◌++◌, length, take, drop, is_some, MatchResult};
 ghost use Rattle.std.specs.List.{insert};
 ghost use Rattle.std.specs.Ordering.{is_lt};

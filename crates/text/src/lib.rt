@@ -1,4 +1,6 @@
 //! Text that the programs read and write: lines, and bytes in hexadecimal.
 
+#![tactic(auto)]
+
 pub mod hex;
 pub mod line;

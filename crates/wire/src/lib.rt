@@ -4,6 +4,8 @@
 //! into a lent buffer, or refuses and leaves the buffer as it was. Bodies are in the crate `bodies`, votes and marks in
 //! `votes`, and what all messages share in `envelope`; what users need of them is found here too.
 
+#![tactic(auto)]
+
 pub mod answer;
 pub mod certificate;
 pub mod export;

@@ -8,4 +8,4 @@ loop-block-preserved c =
 
 pub returns : goal.returns
 returns c =
-    hashed_all c.loop-block.s _ c.loop-block.rest.now c.loop-block.invariant c.in-default.ensures.cases
+    hashed_all c.loop-block.s _ c.loop-block.rest.now c.loop-block.invariant c.in_default.ensures.cases

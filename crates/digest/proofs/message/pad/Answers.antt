@@ -5,6 +5,6 @@ use Rattle.digest.proofs.message.pad.Goals as goal
 pub returns : goal.returns
 returns c = (
   omega arith,
-  padded c.args.rest.now c.put.new.out c.put-u64.new.out c.padded-len-len.result c.args.total
-      c.padded-len-len.ensures (omega arith) c.requires c.put.ensures.after c.put-u64.ensures.after,
+  padded c.args.rest.now c.put.new.out c.put_u64.new.out c.padded_len-len.result c.args.total
+      c.padded_len-len.ensures (omega arith) c.requires c.put.ensures.after c.put_u64.ensures.after,
 )

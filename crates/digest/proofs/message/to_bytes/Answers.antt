@@ -7,8 +7,8 @@ use Rattle.digest.proofs.message.to_bytes.Goals as goal
 pub loop-i-preserved : goal.loop-i-preserved
 loop-i-preserved c =
     let i = c.loop-i.i in
-    let bs = c.to-be-bytes.result in
-    let word : bs ≡ bytes32 (get_or (words_of c.args.s) i 0) = simp div-one c.to-be-bytes.ensures in
+    let bs = c.to_be_bytes.result in
+    let word : bs ≡ bytes32 (get_or (words_of c.args.s) i 0) = simp div-one c.to_be_bytes.ensures in
     let four : length bs ≡ 4 = ap length word in
     filled_more bytes32 c.loop-i.out c.put.new.out (words_of c.args.s) bs 32 (4 * i) (4 * (i + 1)) i
     c.loop-i-test.true c.loop-i.invariant word c.put.ensures.after (omega arith) (omega arith)

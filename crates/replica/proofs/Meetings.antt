@@ -16,7 +16,7 @@ use Rattle.table.specs.KeyOrders.{names}
 use Rattle.table.proofs.Lookups.{found, lookup_absent, lookup_present}
 use Rattle.votes.specs.declared.state.State.{State}
 use Rattle.votes.specs.declared.state.State.TheVariants.{Pending, Committed, RolledBack, Declined}
-use Rattle.replica.specs.Meetings.{is_question, met_at_lem, met_by, met_named, state_at}
+use Rattle.replica.specs.Meetings.{is_question, met_at, met_by, met_named, state_at}
 use Rattle.replica.specs.Models.{Book}
 use Rattle.replica.specs.Steps.{state_after}
 use Rattle.replica.specs.declared.book.Delivered.{Delivered}
@@ -33,7 +33,7 @@ state_at_lem (e ∷ rs) zero d r l = refl
 state_at_lem (e ∷ rs) (suc at) d r l = state_at_lem rs at d r (omega arith)
 
 met_at_lem : (rs : Book) (at : ℕ) (d : Delivered) (r : Row Name State) → at < length rs →
-    met_at_lem rs at d ≡ set rs at (restated (get_or rs at r) (state_after (get_or rs at r).value d))
+    met_at rs at d ≡ set rs at (restated (get_or rs at r) (state_after (get_or rs at r).value d))
 met_at_lem [] at d r l = absurd (omega arith)
 met_at_lem (e ∷ rs) zero d r l = refl
 met_at_lem (e ∷ rs) (suc at) d r l = ap (λ (es : Book). e ∷ es) (met_at_lem rs at d r (omega arith))
@@ -47,14 +47,14 @@ module _ (rs : Book) (at : ℕ) (d : Delivered) (r : Row Name State) (l : at < l
   pub meets_state : s' ≡ state_at rs at d
   meets_state = sym (state_at_lem rs at d r l ∙ leads)
 
-  pub meets_after : set rs at (record { key = (get_or rs at r).key; value = s' }) ≡ met_at_lem rs at d
+  pub meets_after : set rs at (record { key = (get_or rs at r).key; value = s' }) ≡ met_at rs at d
   meets_after =
       sym (met_at_lem rs at d r l ∙ ap (λ (t : State). set rs at (restated (get_or rs at r) t)) leads)
 
 -- and it leads to the same state
 module _ (rs : Book) (at : ℕ) (d : Delivered) (r : Row Name State) (l : at < length rs) (s : State)
     (is : (get_or rs at r).value ≡ s) (e : state_after s d ≡ s) where
-  pub stays_after : set rs at (get_or rs at r) ≡ met_at_lem rs at d
+  pub stays_after : set rs at (get_or rs at r) ≡ met_at rs at d
   stays_after =
       ap (λ (t : State). set rs at (restated (get_or rs at r) t)) is ∙ meets_after rs at d r l s s is e
 
@@ -65,7 +65,7 @@ state_in_front (suc n) [] at d l = refl
 state_in_front (suc n) (r ∷ rs) zero d l = refl
 state_in_front (suc n) (r ∷ rs) (suc at) d l = state_in_front n rs at d (omega arith)
 
-pub met_in_front : (n : ℕ) (rs : Book) (at : ℕ) (d : Delivered) → at < n → met_at_lem (take n rs) at d ≡ take n (met_at_lem rs at d)
+pub met_in_front : (n : ℕ) (rs : Book) (at : ℕ) (d : Delivered) → at < n → met_at (take n rs) at d ≡ take n (met_at rs at d)
 met_in_front zero rs at d l = absurd (omega arith)
 met_in_front (suc n) [] at d l = refl
 met_in_front (suc n) (r ∷ rs) zero d l = refl
@@ -81,7 +81,7 @@ module _ (rs : Book) (x : Name) (d : Delivered) where
     named_state =
         ap Some (state_at_lem rs at d r l) ∙ ap (option_map (λ s. state_after s d)) (lookup_present by_bytes rs x at r e)
 
-    pub named_met : met_at_lem rs at d ≡ met_named rs x d
+    pub named_met : met_at rs at d ≡ met_named rs x d
     named_met =
         met_at_lem rs at d r l ∙ change_is by_bytes rs x (state_after old d) at r e
         ∙ ap (met_by rs x d) (lookup_present by_bytes rs x at r e)
@@ -105,7 +105,7 @@ module _ (rs : Book) (n : ℕ) (x : Name) (d : Delivered) (few : n ≤ length rs
   front r e = e ∙ ap (λ k. position by_bytes (take k rs) x) (sub-zero n)
 
   pub found_met : (at : ℕ) → Ok at ≡ position by_bytes (take (n - 0) rs) x → at < length (take (n - 0) rs) → (s : State) →
-      s ≡ state_at rs at d → (after : Book) → after ≡ met_at_lem rs at d → Met (Some s) after
+      s ≡ state_at rs at d → (after : Book) → after ≡ met_at rs at d → Met (Some s) after
   found_met at h b' s is after are =
       let e = front (Ok at) h in
       let l : at < n = omega (arith, b', ap (λ k. length (take k rs)) (sub-zero n), length-take-le n rs few) in

@@ -32,10 +32,10 @@ state_at (r ∷ rs) zero d = state_after r.value d
 state_at (r ∷ rs) (suc at) d = state_at rs at d
 
 -- the book in which it has that state
-abbrev pub met_at_lem : Book → ℕ → Delivered → Book
-met_at_lem [] at d = []
-met_at_lem (r ∷ rs) zero d = record { key = r.key; value = state_after r.value d } ∷ rs
-met_at_lem (r ∷ rs) (suc at) d = r ∷ met_at_lem rs at d
+abbrev pub met_at : Book → ℕ → Delivered → Book
+met_at [] at d = []
+met_at (r ∷ rs) zero d = record { key = r.key; value = state_after r.value d } ∷ rs
+met_at (r ∷ rs) (suc at) d = r ∷ met_at rs at d
 
 -- the book after a message has met the entry of a name, if it has one
 abbrev pub met_by : Book → Name → Delivered → Option State → Book

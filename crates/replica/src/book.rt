@@ -1,7 +1,7 @@
 // The book: the names that a replica knows, each with its state.
 ghost use Rattle.std.specs.Prelude.{◌≡◌, ◌+◌, ◌<◌, ◌≤◌, true, length, take, None, vec_len};
 ghost use Rattle.std.specs.Option.{option_map};
-ghost use Rattle.replica.specs.Meetings.{certificate_of, met_at_lem, met_named, state_at};
+ghost use Rattle.replica.specs.Meetings.{certificate_of, met_at, met_named, state_at};
 ghost use Rattle.replica.specs.Steps.{entered, state_after};
 ghost use Rattle.table.specs.Orders.{by_bytes};
 ghost use Rattle.table.specs.Rows.{lookup, rising};
@@ -37,7 +37,7 @@ impl Delivered {
 fn meet(book: &mut [Row<Name, State>], at: usize, delivered: Delivered) -> State
     requires { at < length book.old }
     ensures state { result ≡ state_at book.old at delivered }
-    ensures after { book.new ≡ met_at_lem book.old at delivered }
+    ensures after { book.new ≡ met_at book.old at delivered }
 {
     let entry = &mut book[at];
     match (entry.value, delivered) {

@@ -3,7 +3,7 @@ use Rattle.std.proofs.Common.{◌≡◌, ℕ, ◌+◌, ◌<◌, Bool, true, fals
 use Rattle.std.specs.List.{AllByRecursion as All}
 use Rattle.std.proofs.lemmas.List.{get_or_at, get_or-drop, length-drop, take_at}
 use Rattle.std.proofs.lemmas.Bool.{cond-false, cond-true, eq-eqb, eqb-true, ne_eqb}
-use Rattle.votes.specs.Bytes.{with_byte_lem}
+use Rattle.votes.specs.Bytes.{with_byte}
 use Rattle.votes.specs.Grounds.{GroundFits, blocked_by, ground_byte, ground_end, ground_of}
 use Rattle.votes.specs.declared.ground.Ground.{Ground}
 use Rattle.votes.specs.declared.ground.Ground.TheVariants.{Pending, NoRow, Blocked, NoPlace, Unequal, Proposed, Known}
@@ -39,15 +39,15 @@ ground_back Known f = refl
 
 -- what holds of each of these things holds of the one that was found
 found_among : {X : Type 0} (byte : X → ℕ) (P : X → Type 0) (xs : List X) (b : ℕ) (x : X) → All P xs
-    → with_byte_lem byte xs b ≡ Some x → P x
+    → with_byte byte xs b ≡ Some x → P x
 found_among byte P [] b x each e = absurd (let y : ◌≡◌ {A = ℕ} 0 1 = cc in omega arith)
 found_among byte P (y ∷ ys) b x each e = at (eqb b (byte y)) refl (found_among byte P ys b x each.1) where
-  at : (t : Bool) → eqb b (byte y) ≡ t → (with_byte_lem byte ys b ≡ Some x → P x) → P x
+  at : (t : Bool) → eqb b (byte y) ≡ t → (with_byte byte ys b ≡ Some x → P x) → P x
   at true is next =
-      let same : Some y ≡ Some x = sym (ap (λ t. cond t (Some y) (with_byte_lem byte ys b)) is) ∙ e in
+      let same : Some y ≡ Some x = sym (ap (λ t. cond t (Some y) (with_byte byte ys b)) is) ∙ e in
       let it : y ≡ x = cc in
       subst P it each.0
-  at false is next = next (sym (ap (λ t. cond t (Some y) (with_byte_lem byte ys b)) is) ∙ e)
+  at false is next = next (sym (ap (λ t. cond t (Some y) (with_byte byte ys b)) is) ∙ e)
 
 blocked_end : (end : List ℕ) (g : Ground) → Some g ≡ blocked_by end → (ground_byte g ≡ 2) × (ground_end g ≡ end)
 blocked_end end g e = at (eqb (length end) 33) refl where
@@ -72,10 +72,10 @@ blocked_end end g e = at (eqb (length end) 33) refl where
 abbrev plain : List Ground
 plain = Pending ∷ NoRow ∷ NoPlace ∷ Unequal ∷ Proposed ∷ Known ∷ []
 
-plain_end : (b : ℕ) (end : List ℕ) (g : Ground) → Some g ≡ cond (eqb (length end) 0) (with_byte_lem ground_byte plain b) None
+plain_end : (b : ℕ) (end : List ℕ) (g : Ground) → Some g ≡ cond (eqb (length end) 0) (with_byte ground_byte plain b) None
     → (ground_byte g ≡ b) × (ground_end g ≡ end)
 plain_end b [] g e =
-    let found : with_byte_lem ground_byte plain b ≡ Some g = sym e in (
+    let found : with_byte ground_byte plain b ≡ Some g = sym e in (
       sym (with_byte_lem ground_byte plain b g found),
       found_among ground_byte (λ h. ground_end h ≡ []) plain b g (refl, (refl, (refl, (refl, (refl, (refl, tt)))))) found,
     )

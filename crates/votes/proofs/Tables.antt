@@ -1,7 +1,7 @@
 -- Votes and states are told apart by their bytes.
 use Rattle.std.proofs.Common.{◌≡◌, ℕ, Bool, true, false, cond, eqb, List, [], ◌∷◌, Some, None, sym, refl, ap, ◌∙◌, arith}
 use Rattle.std.proofs.lemmas.Bool.{eqb-true}
-use Rattle.votes.specs.Bytes.{with_byte_lem}
+use Rattle.votes.specs.Bytes.{with_byte}
 use Rattle.votes.specs.States.{state_byte, state_of}
 use Rattle.votes.specs.Votes.{vote_byte, vote_of}
 use Rattle.votes.specs.declared.state.State.{State}
@@ -10,14 +10,14 @@ use Rattle.votes.specs.declared.vote.Vote.{Vote}
 use Rattle.votes.specs.declared.vote.Vote.TheVariants.{Commit, Abort}
 
 -- what has the byte b was found under b
-pub with_byte_lem : {X : Type 0} (byte : X → ℕ) (xs : List X) (b : ℕ) (x : X) → with_byte_lem byte xs b ≡ Some x → b ≡ byte x
+pub with_byte_lem : {X : Type 0} (byte : X → ℕ) (xs : List X) (b : ℕ) (x : X) → with_byte byte xs b ≡ Some x → b ≡ byte x
 with_byte_lem byte [] b x e = absurd (let y : ◌≡◌ {A = ℕ} 0 1 = cc in omega arith)
 with_byte_lem byte (y ∷ ys) b x e = at (eqb b (byte y)) refl (with_byte_lem byte ys b x) where
-  at : (t : Bool) → eqb b (byte y) ≡ t → (with_byte_lem byte ys b ≡ Some x → b ≡ byte x) → b ≡ byte x
+  at : (t : Bool) → eqb b (byte y) ≡ t → (with_byte byte ys b ≡ Some x → b ≡ byte x) → b ≡ byte x
   at true is next =
-      let same : Some y ≡ Some x = sym (ap (λ t. cond t (Some y) (with_byte_lem byte ys b)) is) ∙ e in
+      let same : Some y ≡ Some x = sym (ap (λ t. cond t (Some y) (with_byte byte ys b)) is) ∙ e in
       eqb-true b (byte y) is ∙ ap byte (cc)
-  at false is next = next (sym (ap (λ t. cond t (Some y) (with_byte_lem byte ys b)) is) ∙ e)
+  at false is next = next (sym (ap (λ t. cond t (Some y) (with_byte byte ys b)) is) ∙ e)
 
 pub vote_back : (v : Vote) → vote_of (vote_byte v) ≡ Some v
 vote_back Commit = refl

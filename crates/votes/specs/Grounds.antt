@@ -1,7 +1,7 @@
 -- The grounds of an answer: the byte of each, and what stands at the end of the answer for a blocker.
 use Rattle.std.specs.Prelude.{◌≡◌, ℕ, ◌/◌, ◌%◌, ◌^◌, ◌<◌, Bool, cond, ◌&&◌, List, [], ◌∷◌, ◌++◌, length, take, Some, None, Option, ◌==◌, nat_lt, slice_index}
 use Rattle.envelope.specs.declared.name.Name.{Name}
-use Rattle.votes.specs.Bytes.{with_byte_lem}
+use Rattle.votes.specs.Bytes.{with_byte}
 use Rattle.votes.specs.declared.ground.Blocker.{Blocker}
 use Rattle.votes.specs.declared.ground.Ground.{Ground}
 use Rattle.votes.specs.declared.ground.Ground.TheVariants.{Pending, NoRow, Blocked, NoPlace, Unequal, Proposed, Known}
@@ -57,7 +57,7 @@ blocked_by end =
 abbrev pub ground_of : ℕ → List ℕ → Option Ground
 ground_of b end =
     cond (b == 2) (blocked_by end)
-    (cond (length end == 0) (with_byte_lem ground_byte (Pending ∷ NoRow ∷ NoPlace ∷ Unequal ∷ Proposed ∷ Known ∷ []) b) None)
+    (cond (length end == 0) (with_byte ground_byte (Pending ∷ NoRow ∷ NoPlace ∷ Unequal ∷ Proposed ∷ Known ∷ []) b) None)
 
 -- a ground that was found fits
 abbrev pub FoundFits : Option Ground → Type 0

@@ -1,6 +1,6 @@
 -- The states of a transaction at a replica, as bytes.
 use Rattle.std.specs.Prelude.{ℕ, List, [], ◌∷◌, Option}
-use Rattle.votes.specs.Bytes.{with_byte_lem}
+use Rattle.votes.specs.Bytes.{with_byte}
 use Rattle.votes.specs.declared.state.State.{State}
 use Rattle.votes.specs.declared.state.State.TheVariants.{Pending, Committed, RolledBack, Declined}
 
@@ -13,4 +13,4 @@ state_byte Declined = 4
 
 -- the state of a byte
 abbrev pub state_of : ℕ → Option State
-state_of = with_byte_lem state_byte (Pending ∷ Committed ∷ RolledBack ∷ Declined ∷ [])
+state_of = with_byte state_byte (Pending ∷ Committed ∷ RolledBack ∷ Declined ∷ [])

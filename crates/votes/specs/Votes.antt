@@ -1,6 +1,6 @@
 -- Votes, as bytes.
 use Rattle.std.specs.Prelude.{ℕ, List, [], ◌∷◌, Option}
-use Rattle.votes.specs.Bytes.{with_byte_lem}
+use Rattle.votes.specs.Bytes.{with_byte}
 use Rattle.votes.specs.declared.vote.Vote.{Vote}
 use Rattle.votes.specs.declared.vote.Vote.TheVariants.{Commit, Abort}
 
@@ -11,4 +11,4 @@ vote_byte Abort = 2
 
 -- the vote of a byte
 abbrev pub vote_of : ℕ → Option Vote
-vote_of = with_byte_lem vote_byte (Commit ∷ Abort ∷ [])
+vote_of = with_byte vote_byte (Commit ∷ Abort ∷ [])

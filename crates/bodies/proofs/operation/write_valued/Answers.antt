@@ -10,6 +10,6 @@ returns c =
     record {
       after =
           overlaid_more c.args.out.now keyed (bytes64 c.args.value) _ _ _ c.args.at _ (omega arith)
-          c.write-keyed-next.ensures.after c.write-keyed-next.ensures.end refl c.put-u64.ensures.after;
+          c.write_keyed-next.ensures.after c.write_keyed-next.ensures.end refl c.put_u64.ensures.after;
       end = omega arith;
     }

@@ -2,7 +2,7 @@ use Rattle.std.proofs.Common.{◌-◌, ◌<◌, ◌≤◌, length, take, vec_ite
 use Rattle.std.proofs.lemmas.List.{with_items_is}
 use Rattle.table.specs.Orders.{by_bytes}
 use Rattle.table.specs.Rows.{position}
-use Rattle.replica.specs.Meetings.{met_at_lem, state_at}
+use Rattle.replica.specs.Meetings.{met_at, state_at}
 use Rattle.replica.specs.Models.{Book}
 use Rattle.replica.proofs.Meetings.{found_met, missed_met}
 use Rattle.replica.proofs.book.meet_named.Goals as goal
@@ -22,7 +22,7 @@ returns-in-Ok c =
     (c.in-Ok.ensures.place ∙ ap (λ (rs : Book). position by_bytes (take (n - 0) rs) x) c.deref.ensures.value)
     (subst (λ (rs : Book). at < length (take (n - 0) rs)) c.deref.ensures.value c.in-Ok.ensures.bound)
     _ (c.meet.ensures.state ∙ ap (λ (rs : Book). state_at rs at d) same)
-    _ (whole ∙ c.meet.ensures.after ∙ ap (λ (rs : Book). met_at_lem rs at d) same) in
+    _ (whole ∙ c.meet.ensures.after ∙ ap (λ (rs : Book). met_at rs at d) same) in
     record { state = m.state; after = m.after_is; rises = m.rises; len = refl }
 
 pub returns-in-Err : goal.returns-in-Err

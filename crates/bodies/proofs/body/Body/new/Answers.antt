@@ -17,10 +17,10 @@ all list os i so end = so ∙ take_all i os end
 some : (list os : List Operation) → list ≡ os → false ≡ eqb (length os) 0 → 1 ≤ length list
 some list os same test = let h = false-eqb _ 0 test in omega (arith, ap length same)
 
-pub invariant-of-result : goal.invariant-of-result
-invariant-of-result c =
+pub invariant_of-result : goal.invariant_of-result
+invariant_of-result c =
     let same = all _ _ _ c.loop-operation.invariant c.loop-operation-test.false in
-    (some _ _ same c.if-is-empty.ensures, (ap writes_apart same ∙ sym c.if-not-writes-apart.ensures, tt))
+    (some _ _ same c.if-is_empty.ensures, (ap writes_apart same ∙ sym c.if-not-writes_apart.ensures, tt))
 
 pub returns : goal.returns
 returns c =

@@ -4,24 +4,24 @@ use Rattle.bodies.proofs.OneOperation.{same_operation}
 use Rattle.envelope.proofs.Sequences.{one_more, next, ends, all_read}
 use Rattle.bodies.proofs.body.reader.read_operations.Goals as goal
 
-pub returns-in-err-operation : goal.returns-in-err-operation
-returns-in-err-operation c =
-    rw c.from-residual.ensures
+pub returns-in_err-operation : goal.returns-in_err-operation
+returns-in_err-operation c =
+    rw c.from_residual.ensures
     (λ os l f e.
     let n = next OperationFits operation_bytes same_operation _ _ _ _ c.loop-i.invariant os [] f (e ∙ sym (append-nil _)) (omega arith) in
-    c.in-err-operation.ensures n.0 _ n.4 n.3)
+    c.in_err-operation.ensures n.0 _ n.4 n.3)
 
 pub loop-i-preserved : goal.loop-i-preserved
 loop-i-preserved c =
-    let o = c.in-ok-operation.ensures in
+    let o = c.in_ok-operation.ensures in
     one_more OperationFits operation_bytes _ _ _ _ c.loop-i.invariant _ _ _ c.push.ensures o.0 o.1
 
-pub returns-then-is-empty : goal.returns-then-is-empty
-returns-then-is-empty c =
-    (omega arith, c.loop-i.invariant.fit, all_read OperationFits operation_bytes _ _ _ _ c.loop-i.invariant (true-eqb _ 0 c.if-is-empty.ensures))
+pub returns-then-is_empty : goal.returns-then-is_empty
+returns-then-is_empty c =
+    (omega arith, c.loop-i.invariant.fit, all_read OperationFits operation_bytes _ _ _ _ c.loop-i.invariant (true-eqb _ 0 c.if-is_empty.ensures))
 
-pub returns-else-is-empty : goal.returns-else-is-empty
-returns-else-is-empty c =
+pub returns-else-is_empty : goal.returns-else-is_empty
+returns-else-is_empty c =
     λ os l f e.
     let none = ends OperationFits operation_bytes same_operation _ _ _ _ c.loop-i.invariant os [] f (e ∙ sym (append-nil _)) (omega arith) in
-    false-eqb _ 0 c.if-is-empty.ensures (ap length none)
+    false-eqb _ 0 c.if-is_empty.ensures (ap length none)

@@ -14,7 +14,7 @@ loop-operation-preserved c =
     let o = get_or os i (Read 0) in
     let l = c.loop-operation-test.true in
     let more = ap length (joined_next operation_bytes os i (Read 0) l) ∙ length-append (flat_map operation_bytes (take i os)) (operation_bytes o) in
-    let is = c.operation-size-size.ensures in (
+    let is = c.operation_size-size.ensures in (
       omega (arith, more, is.size),
       omega (arith, is.few),
       subst (All OperationFits) (sym (take_more os i (Read 0) l))

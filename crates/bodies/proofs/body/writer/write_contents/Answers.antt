@@ -11,9 +11,9 @@ returns c =
     let at = c.args.at in
     let os = c.args.operations.now in
     let one = bytes64 c.args.nonce in
-    let first = c.put-u64-next.ensures in
+    let first = c.put_u64-next.ensures in
     let second = c.put-next.ensures in
-    let last = c.write-operations.ensures in
+    let last = c.write_operations.ensures in
     let two = overlaid_more out one (length os ∷ []) _ _ _ at _ (omega arith) first.after first.end refl second.after in
     record {
       after =

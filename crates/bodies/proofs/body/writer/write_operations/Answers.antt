@@ -10,8 +10,8 @@ use Rattle.bodies.proofs.body.writer.write_operations.Goals as goal
 pub loop-operation-init : goal.loop-operation-init
 loop-operation-init c = (overlaid_none c.args.out.now c.args.at, omega arith)
 
-pub write-operation-next-requires : goal.write-operation-next-requires
-write-operation-next-requires c =
+pub write_operation-next-requires : goal.write_operation-next-requires
+write_operation-next-requires c =
     let os = c.args.operations.now in
     let i = c.loop-operation.operation-index in
     let within = joined_within operation_bytes os i (Read 0) c.loop-operation-test.true in
@@ -25,7 +25,7 @@ loop-operation-preserved c =
     let i = c.loop-operation.operation-index in
     let l = c.loop-operation-test.true in
     let next = ap length (joined_next operation_bytes os i (Read 0) l) ∙ length-append (flat_map operation_bytes (take i os)) (operation_bytes (get_or os i (Read 0))) in
-    let is = c.write-operation-next.ensures in (
+    let is = c.write_operation-next.ensures in (
       joined_written operation_bytes os c.args.out.now _ _ c.args.at _ i (Read 0) l (omega arith)
           c.loop-operation.invariant.0 c.loop-operation.invariant.1 is.after,
       omega (arith, is.end, c.loop-operation.invariant.1),

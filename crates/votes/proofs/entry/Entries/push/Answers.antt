@@ -15,8 +15,8 @@ bounds-self-self c =
     let low = free c.args.self.now.items c.args.self.now.count (search rules) c.requires in
     omega arith
 
-pub invariant-of-self : goal.invariant-of-self
-invariant-of-self c =
+pub invariant_of-self : goal.invariant_of-self
+invariant_of-self c =
     let low = free c.args.self.now.items c.args.self.now.count (search rules) c.requires in
     (omega arith, tt)
 

@@ -3,8 +3,8 @@ use Rattle.std.proofs.lemmas.List.{take_more_set}
 use Rattle.votes.proofs.Bounded.{place_left}
 use Rattle.votes.proofs.values.Values.push.Goals as goal
 
-pub offset-bounds-self-self : goal.offset-bounds-self-self
-offset-bounds-self-self c =
+pub offset_bounds-self-self : goal.offset_bounds-self-self
+offset_bounds-self-self c =
     let low = place_left c.args.self.now.items c.args.self.now.count (search rules) in
     omega arith
 
@@ -13,8 +13,8 @@ bounds-self-self c =
     let low = place_left c.args.self.now.items c.args.self.now.count (search rules) in
     omega arith
 
-pub overflow-add-self : goal.overflow-add-self
-overflow-add-self c =
+pub overflow_add-self : goal.overflow_add-self
+overflow_add-self c =
     let low = place_left c.args.self.now.items c.args.self.now.count (search rules) in
     omega arith
 

@@ -20,7 +20,10 @@ some list os same test = let h = false-eqb _ 0 test in omega (arith, ap length s
 pub invariant_of-result : goal.invariant_of-result
 invariant_of-result c =
     let same = all _ _ _ c.loop-operation.invariant c.loop-operation-test.false in
-    (some _ _ same c.if-is_empty.ensures, (ap writes_apart same ∙ sym c.if-not-writes_apart.ensures, tt))
+    record {
+      some = some _ _ same c.if-is_empty.ensures;
+      apart = ap writes_apart same ∙ sym c.if-not-writes_apart.ensures;
+    }
 
 pub returns : goal.returns
 returns c =

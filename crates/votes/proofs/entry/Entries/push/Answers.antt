@@ -18,7 +18,7 @@ bounds-self-self c =
 pub invariant_of-self : goal.invariant_of-self
 invariant_of-self c =
     let low = free c.args.self.now.items c.args.self.now.count (search rules) c.requires in
-    (omega arith, tt)
+    record { within = omega arith }
 
 pub returns : goal.returns
 returns c =

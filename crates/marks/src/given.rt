@@ -7,7 +7,7 @@ use votes::statement::Statement;
 
 /// A mark of the statement, or none where the replica that it names is spent.
 pub fn give_mark<K: MarkScheme>(scheme: &mut K, statement: &Statement) -> Option<Mark>
-    ensures { GivesMark K genuine spent leaves size scheme.old scheme.new statement.now result }
+    ensures { GivesMark K K.genuine K.spent K.leaves K.size scheme.old scheme.new statement.now result }
 {
     let mut buffer = [0; LARGEST_MARK];
     match scheme.give(statement, &mut buffer) {

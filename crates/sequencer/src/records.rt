@@ -34,8 +34,8 @@ fn extend(bytes: &mut Vec<u8>, more: &[u8])
 /// Adds a record at the end, for which there is space: the label, which is the group on a tape and nothing on a track,
 /// the length and the message.
 pub fn append_record(bytes: &mut Vec<u8>, label: &[u8], message: &[u8])
-    requires message_len_bound { length message.now ≤ largest_message }
-    requires message_len_bound_2 { vec_len bytes.old + (length label.now + 2 + length message.now) ≤ vec_capacity bytes.old }
+    requires short { length message.now ≤ largest_message }
+    requires fits { vec_len bytes.old + (length label.now + 2 + length message.now) ≤ vec_capacity bytes.old }
     ensures after { bytes.new.items ≡ bytes.old.items ++ (label.now ++ (big_endian 2 (length message.now) ++ message.now)) }
     ensures capacity { vec_capacity bytes.old ≤ vec_capacity bytes.new }
 {

@@ -38,8 +38,8 @@ impl Tape {
 
     // Adds the message, which fits, at the end.
     fn append(&mut self, group: u8, message: &[u8])
-        requires group_in_bounds { group < length self.old.indexes.items }
-        requires message_value { has_space 1 (length self.old.bytes.items) self.old.size (length message.now) ≡ true }
+        requires known { group < length self.old.indexes.items }
+        requires fits { has_space 1 (length self.old.bytes.items) self.old.size (length message.now) ≡ true }
         ensures bytes { self.new.bytes.items ≡ self.old.bytes.items ++ record_of 1 (record { group = group; message = message.now }) }
         ensures size { self.new.size ≡ self.old.size }
         ensures groups { length self.new.indexes.items ≡ length self.old.indexes.items }

@@ -3,7 +3,7 @@ ghost use Rattle.std.specs.Prelude.{◌≡◌, length, IfOk};
 ghost use Rattle.sequencer.specs.Lists.{Fresh};
 ghost use Rattle.sequencer.specs.Records.{has_space};
 ghost use Rattle.sequencer.specs.Tracks.{TracksLeft, track_fits, track_lists};
-ghost use Rattle.sequencer.specs.TrackBounds.{track-bounds};
+ghost use Rattle.sequencer.specs.TrackBounds.{track_bounds};
 
 use crate::Sequencer;
 use crate::track::Track;
@@ -44,7 +44,7 @@ impl Sequencer for Tracks {
 
     ghost leaves = { TracksLeft };
 
-    ghost bounds = { track-bounds };
+    ghost bounds = { track_bounds };
 
     fn post(&mut self, group: u8, message: &[u8]) -> bool {
         if !self.has_space(group, message.len()) {

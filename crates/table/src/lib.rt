@@ -25,8 +25,8 @@ mod tests;
 
 /// Where the key stands, or where it would go.
 pub fn find<K: Key, V>(rows: &[Row<K, V>], key: &K) -> Result<usize, usize>
-    requires { rising order rows.now ≡ true }
-    ensures place { result ≡ position order rows.now key.now }
+    requires { rising K.order rows.now ≡ true }
+    ensures place { result ≡ position K.order rows.now key.now }
     ensures bound { MatchResult result (λ i. i < length rows.now) (λ i. i ≤ length rows.now) }
 {
     let mut low = 0;
@@ -44,8 +44,8 @@ pub fn find<K: Key, V>(rows: &[Row<K, V>], key: &K) -> Result<usize, usize>
 
 /// The value beside the key.
 pub fn get<K: Key, V: Copy>(rows: &[Row<K, V>], key: &K) -> Option<V>
-    requires { rising order rows.now ≡ true }
-    ensures { result ≡ lookup order rows.now key.now }
+    requires { rising K.order rows.now ≡ true }
+    ensures { result ≡ lookup K.order rows.now key.now }
 {
     match find(rows, key) {
         Ok(at) => Some(rows[at].value),
@@ -55,7 +55,7 @@ pub fn get<K: Key, V: Copy>(rows: &[Row<K, V>], key: &K) -> Option<V>
 
 /// Whether each key is below the next.
 pub fn rises<K: Key, V>(rows: &[Row<K, V>]) -> bool
-    ensures { result ≡ rising order rows.now }
+    ensures { result ≡ rising K.order rows.now }
 {
     for i in 1..rows.len() {
         if !is_below(&rows[i - 1].key, &rows[i].key) {
@@ -74,13 +74,13 @@ pub fn insert<K: Key + Drop, V: Drop>(
     key: K,
     value: V,
 ) -> Result<usize, Refusal>
-    requires { rising order (take filled rows.old) ≡ true }
-    ensures answer { result ≡ insert_answer order rows.old filled key }
+    requires { rising K.order (take filled rows.old) ≡ true }
+    ensures answer { result ≡ insert_answer K.order rows.old filled key }
     ensures after { rows.new
-        ≡ insert_after order rows.old filled (record { key = key; value = value }) }
+        ≡ insert_after K.order rows.old filled (record { key = key; value = value }) }
     ensures table { take (filled_after filled result) rows.new
-        ≡ table_after order (take filled rows.old) (record { key = key; value = value }) result }
-    ensures rises { rising order (take (filled_after filled result) rows.new) ≡ true }
+        ≡ table_after K.order (take filled rows.old) (record { key = key; value = value }) result }
+    ensures rises { rising K.order (take (filled_after filled result) rows.new) ≡ true }
 {
     let at = match find(first(rows, filled), &key) {
         Ok(at) => return Err(Refusal::Present(at)),
@@ -95,10 +95,10 @@ pub fn insert<K: Key + Drop, V: Drop>(
 
 /// Gives the key's row another value, and answers whether the key has a row.
 pub fn change<K: Key, V: Drop>(rows: &mut [Row<K, V>], key: &K, value: V) -> bool
-    requires { rising order rows.old ≡ true }
-    ensures answer { result ≡ is_some (lookup order rows.old key.now) }
-    ensures after { rows.new ≡ changed order rows.old key.now value }
-    ensures rises { rising order rows.new ≡ true }
+    requires { rising K.order rows.old ≡ true }
+    ensures answer { result ≡ is_some (lookup K.order rows.old key.now) }
+    ensures after { rows.new ≡ changed K.order rows.old key.now value }
+    ensures rises { rising K.order rows.new ≡ true }
 {
     match find(rows, key) {
         Ok(at) => {
@@ -111,14 +111,14 @@ pub fn change<K: Key, V: Drop>(rows: &mut [Row<K, V>], key: &K, value: V) -> boo
 
 /// What an insertion and a change leave, and what is found then.
 pub fn table_laws_hold<K: Key, V>() -> u8
-    ensures { TableLaws K V order }
+    ensures { TableLaws K V K.order }
 {
     0
 }
 
 // Whether `left` is below `right`.
 fn is_below<K: Key>(left: &K, right: &K) -> bool
-    ensures { result ≡ is_lt (order left.now right.now) }
+    ensures { result ≡ is_lt (K.order left.now right.now) }
 {
     left.compare(right).is_lt()
 }

@@ -4,7 +4,7 @@ ghost use Rattle.std.specs.List.{AllByRecursion as All};
 ghost use Rattle.sequencer.specs.Lists.{Fresh};
 ghost use Rattle.sequencer.specs.Records.{has_space};
 ghost use Rattle.sequencer.specs.Tapes.{TapeLeft, tape_fits, tape_lists};
-ghost use Rattle.sequencer.specs.TapeBounds.{tape-bounds};
+ghost use Rattle.sequencer.specs.TapeBounds.{tape_bounds};
 
 use super::{LEAD, SMALLEST_RECORD, Tape};
 use crate::Sequencer;
@@ -46,7 +46,7 @@ impl Sequencer for Tape {
 
     ghost leaves = { TapeLeft };
 
-    ghost bounds = { tape-bounds };
+    ghost bounds = { tape_bounds };
 
     fn post(&mut self, group: u8, message: &[u8]) -> bool {
         if !self.has_space(group, message.len()) {

@@ -14,8 +14,8 @@ returns g c =
     let x : Row g.row.K.Denot g.row.V.Denot = record { key = c.args.key; value = c.args.value } in
     let found = c.in-Err.ensures in
     let free = c.if-filled-rows.false in
-    let after = c.put-in.new.items in
-    let put = c.put-in.ensures in
+    let after = c.put_in.new.items in
+    let put = c.put_in.ensures in
     let total = g.met.K.Key.total in
     record {
       answer = answer_is cmp rows table filled at x first found.place found.bound free;

@@ -5,4 +5,4 @@ use Rattle.table.proofs.put_in.Goals as goal
 pub returns : goal.returns
 returns g c =
     put_in c.args.items.now c.args.at c.args.count c.args.item c.requires.0 c.requires.1 _ _ refl
-    c.rotate-right.ensures.after
+    c.rotate_right.ensures.after

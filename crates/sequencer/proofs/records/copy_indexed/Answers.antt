@@ -5,8 +5,8 @@ use Rattle.sequencer.specs.Places.{message_at}
 use Rattle.sequencer.proofs.Reading.{all_nth, nth_map}
 use Rattle.sequencer.proofs.records.copy_indexed.Goals as goal
 
-pub copy-message-requires : goal.copy-message-requires
-copy-message-requires c =
+pub copy_message-requires : goal.copy_message-requires
+copy_message-requires c =
     let ps = c.args.index.now.starts.items in
     all_nth _ ps c.args.number c.in-Some.start c.requires (sym c.in-Some.ensures)
 
@@ -16,8 +16,8 @@ returns-in-Some c =
     let ps = c.args.index.now.starts.items in
     let is = nth_map read ps c.args.number ∙ ap (option_map read) (sym c.in-Some.ensures) in
     record {
-      answer = ap Some c.copy-message.ensures.answer ∙ sym (ap (option_map length) is);
-      copied = c.copy-message.ensures.copied ∙ sym (ap (copied_to c.args.out.now) is);
+      answer = ap Some c.copy_message.ensures.answer ∙ sym (ap (option_map length) is);
+      copied = c.copy_message.ensures.copied ∙ sym (ap (copied_to c.args.out.now) is);
     }
 
 pub returns-in-None : goal.returns-in-None

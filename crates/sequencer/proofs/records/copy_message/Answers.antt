@@ -3,8 +3,8 @@ use Rattle.octets.specs.Buffers.{overlaid}
 use Rattle.sequencer.proofs.Reading.{length_at, said_at, text_at}
 use Rattle.sequencer.proofs.records.copy_message.Goals as goal
 
-pub slice-bounds-put-end-2 : goal.slice-bounds-put-end-2
-slice-bounds-put-end-2 c = omega (arith, said_at c.args.bytes.now c.args.lead c.args.start, c.requires.inside)
+pub slice_bounds-put-end-2 : goal.slice_bounds-put-end-2
+slice_bounds-put-end-2 c = omega (arith, said_at c.args.bytes.now c.args.lead c.args.start, c.requires.inside)
 
 pub put-requires : goal.put-requires
 put-requires c =

@@ -10,7 +10,7 @@ returns-then-out c =
 
 pub returns : goal.returns
 returns c =
-    let head = c.write-header-next.ensures in
+    let head = c.write_header-next.ensures in
     let last = c.put.ensures in
     let wrote = writes proposal_format c.args.name.now c.args.out.now 32 (search rules) _ _ _ _
     c.if-out.false head.after head.end last.after last.end in

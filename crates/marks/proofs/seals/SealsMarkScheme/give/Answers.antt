@@ -14,7 +14,7 @@ returns c =
     record {
       says =
           says_given _ 32 c.args.out.now (ap (spent_at hs) (sym at) ∙ ne_eqb _ 0 c.if-holder-eq0.false)
-          c.if-out-lt-SEAL-SIZE.false;
+          c.if-out-lt-SEAL_SIZE.false;
       same = λ no. absurd (true≢false no);
       marks = λ _.
           ap (λ p. seal_at hs p c.args.statement.now (take 32 c.put.new.out)) (sym at)

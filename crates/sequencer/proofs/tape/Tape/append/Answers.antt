@@ -12,41 +12,44 @@ push-requires c =
     let t = c.args.self.now in
     let is = t.indexes.items in
     let g : ℕ = c.args.group in
-    let i = c.index-mut.result.now in
+    let i = c.index_mut.result.now in
     let used : ℕ = length t.bytes.items in
     let n : ℕ = length c.args.message.now in
     let few = count_starts 1 (omega arith) t.bytes.items t.whole g in
-    let e = c.index-mut.ensures.value in
-    let old = index_starts is (starts_of 1 t.bytes.items) t.indexed g c.requires.0 i e in
+    let e = c.index_mut.ensures.value in
+    let old = index_starts is (starts_of 1 t.bytes.items) t.indexed g c.requires.known i e in
     let count = i.starts.ok.0 ∙ ap length old in
-    let space = spacious 1 used t.size n c.requires.1 in
+    let space = spacious 1 used t.size n c.requires.fits in
     index_space 1 (omega arith) used t.size n i.starts.len i.starts.cap space (omega (arith, few, count))
-    (spacious_at (t.size / 4) is g i t.limit c.requires.0 e)
+    (spacious_at (t.size / 4) is g i t.limit c.requires.known e)
 
-pub invariant-of-self : goal.invariant-of-self
-invariant-of-self c =
+pub invariant_of-self : goal.invariant_of-self
+invariant_of-self c =
     let t = c.args.self.now in
     let bs = t.bytes.items in
     let is = t.indexes.items in
     let g : ℕ = c.args.group in
-    let i = c.index-mut.result.now in
-    let at = c.index-mut.ensures.value in
+    let i = c.index_mut.result.now in
+    let at = c.index_mut.ensures.value in
     let e : Entry = record { group = g; message = c.args.message.now } in
-    let fits = spacious 1 (length bs) t.size (length e.message) c.requires.1 in
+    let fits = spacious 1 (length bs) t.size (length e.message) c.requires.fits in
     let p : Proper 1 e = record { placed = refl; sized = fits.sized } in
-    let after = sym c.append-record.ensures.after in
+    let after = sym c.append_record.ensures.after in
     let whole = subst (OnlyRecords 1) after (only_more 1 (omega arith) bs e t.whole p) in
     let end : c.len-start.result ≡ length bs = c.len-start.ensures ∙ t.bytes.ok.0 in
-    let old = index_starts is (starts_of 1 bs) t.indexed g c.requires.0 i at in
+    let old = index_starts is (starts_of 1 bs) t.indexed g c.requires.known i at in
     let i' = c.push.new.self in
     let own = c.push.ensures.starts ∙ ap₂ (λ ps k. ps ++ k ∷ []) old end
     ∙ sym (starts_own 1 (omega arith) bs t.whole e p) ∙ ap (λ l. starts_of 1 l g) after in
-    let starts = starts_of 1 c.append-record.new.bytes.items in
-    let indexed = indexed_set is (starts_of 1 bs) t.indexed g c.requires.0 starts i' own
+    let starts = starts_of 1 c.append_record.new.bytes.items in
+    let indexed = indexed_set is (starts_of 1 bs) t.indexed g c.requires.known starts i' own
     (λ h ne. starts_other 1 (omega arith) bs t.whole e p h ne ∙ ap (λ l. starts_of 1 l h) after) in
     let limit : ℕ = t.size / 4 in
     let space : limit ≤ i'.starts.cap =
-    omega (arith, spacious_at limit is g i t.limit c.requires.0 at, c.push.ensures.capacity) in (
-      omega (arith, t.reserved, c.append-record.ensures.capacity),
-      (whole, (indexed, (spacious_set limit is g i' t.limit space, tt))),
-    )
+    omega (arith, spacious_at limit is g i t.limit c.requires.known at, c.push.ensures.capacity) in
+    record {
+      reserved = omega (arith, t.reserved, c.append_record.ensures.capacity);
+      whole = whole;
+      indexed = indexed;
+      limit = spacious_set limit is g i' t.limit space;
+    }

@@ -7,21 +7,21 @@ use Rattle.sequencer.specs.Space.{all_starts_none, messages_none, only_none}
 use Rattle.sequencer.proofs.Indexing.{empty_spacious, empty_starts}
 use Rattle.sequencer.proofs.tape.Tape.new.Goals as goal
 
-pub invariant-of-result : goal.invariant-of-result
-invariant-of-result c =
-    let made = c.in-ok-bytes.ensures in
-    let is = c.in-ok-indexes.indexes.items in
+pub invariant_of-result : goal.invariant_of-result
+invariant_of-result c =
+    let made = c.in_ok-bytes.ensures in
+    let is = c.in_ok-indexes.indexes.items in
     let limit : ℕ = c.args.size / 4 in
-    let none = c.in-ok-indexes.ensures.1 in
+    let none = c.in_ok-indexes.ensures.1 in
     let indexed = empty_starts limit is none 0 ∙ all_starts_none 1 (length is)
     ∙ ap (λ bs. map (starts_of 1 bs) (range_with_len 0 (length is))) (sym made.items) in
     (made.capacity, (subst (OnlyRecords 1) (sym made.items) (only_none 1), (indexed, (empty_spacious limit is none, tt))))
 
 pub returns : goal.returns
 returns c =
-    let bytes = c.in-ok-bytes.ensures.items in
-    let many = c.in-ok-indexes.ensures.0 in
-    let n : ℕ = length c.in-ok-indexes.indexes.items in
+    let bytes = c.in_ok-bytes.ensures.items in
+    let many = c.in_ok-indexes.ensures.0 in
+    let n : ℕ = length c.in_ok-indexes.indexes.items in
     record {
       none = λ g.
           ap (λ ms. cond (ltb g n) ms []) (ap (λ bs. messages_of 1 bs g) bytes ∙ messages_none 1 g)

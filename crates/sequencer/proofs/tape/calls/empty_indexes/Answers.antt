@@ -6,14 +6,14 @@ use Rattle.sequencer.proofs.tape.calls.empty_indexes.Goals as goal
 
 pub loop-init : goal.loop-init
 loop-init c =
-    let made = c.in-ok-indexes.ensures in
+    let made = c.in_ok-indexes.ensures in
     (made.len, subst (All (EmptyIndex c.args.limit)) (sym made.items) tt)
 
 pub loop-preserved : goal.loop-preserved
 loop-preserved c =
-    let pushed = c.in-ok-push.ensures in
+    let pushed = c.in_ok-push.ensures in
     let empty = EmptyIndex c.args.limit in
-    let made = c.in-ok-new in
+    let made = c.in_ok-new in
     let all = All-push empty c.loop.indexes.items made.field-0 c.loop.invariant.1 made.ensures in
     (omega (arith, pushed.len, c.loop.invariant.0), subst (All empty) (sym pushed.items) all)
 

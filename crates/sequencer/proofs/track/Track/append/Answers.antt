@@ -17,18 +17,21 @@ push-requires c =
     index_space 0 (omega arith) used t.size n t.index.starts.len t.index.starts.cap space
     (omega (arith, few, count)) t.limit
 
-pub invariant-of-self : goal.invariant-of-self
-invariant-of-self c =
+pub invariant_of-self : goal.invariant_of-self
+invariant_of-self c =
     let t = c.args.self.now in
     let bs = t.bytes.items in
     let e : Entry = record { group = 0; message = c.args.message.now } in
     let space = spacious 0 (length bs) t.size (length e.message) c.requires in
     let p : Proper 0 e = record { placed = refl; sized = space.sized } in
-    let is = sym c.append-record.ensures.after in
+    let is = sym c.append_record.ensures.after in
     let whole = subst (OnlyRecords 0) is (only_more 0 (omega arith) bs e t.whole p) in
     let end : c.len-start.result ≡ length bs = c.len-start.ensures ∙ t.bytes.ok.0 in
     let starts = c.push.ensures.starts ∙ ap₂ (λ ps k. ps ++ k ∷ []) t.indexed end
-    ∙ sym (starts_own 0 (omega arith) bs t.whole e p) ∙ ap (λ l. starts_of 0 l 0) is in (
-      omega (arith, t.reserved, c.append-record.ensures.capacity),
-      (whole, (starts, (omega (arith, t.limit, c.push.ensures.capacity), tt))),
-    )
+    ∙ sym (starts_own 0 (omega arith) bs t.whole e p) ∙ ap (λ l. starts_of 0 l 0) is in
+    record {
+      reserved = omega (arith, t.reserved, c.append_record.ensures.capacity);
+      whole = whole;
+      indexed = starts;
+      limit = omega (arith, t.limit, c.push.ensures.capacity);
+    }

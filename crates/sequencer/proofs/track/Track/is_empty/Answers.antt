@@ -7,5 +7,5 @@ use Rattle.sequencer.proofs.track.Track.is_empty.Goals as goal
 pub returns : goal.returns
 returns c =
     let t = c.args.self.now in
-    c.is-empty.ensures ∙ ap is_nil t.indexed
+    c.is_empty.ensures ∙ ap is_nil t.indexed
     ∙ sym (ap is_nil (messages_at 0 (omega arith) t.bytes.items t.whole 0) ∙ is_nil_map _ _)

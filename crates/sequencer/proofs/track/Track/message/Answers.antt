@@ -5,8 +5,8 @@ use Rattle.sequencer.specs.Lists.{copied_to}
 use Rattle.sequencer.specs.PlacesLemmas.{indexed_messages, indexed_starts}
 use Rattle.sequencer.proofs.track.Track.message.Goals as goal
 
-pub copy-indexed-requires : goal.copy-indexed-requires
-copy-indexed-requires c =
+pub copy_indexed-requires : goal.copy_indexed-requires
+copy_indexed-requires c =
     let t = c.args.self.now in
     indexed_starts 0 (omega arith) t.bytes.items _ _ 0 c.deref.ensures.value t.whole t.indexed
 
@@ -16,6 +16,6 @@ returns c =
     let value = c.deref.ensures.value in
     let is = indexed_messages 0 (omega arith) t.bytes.items _ _ 0 value t.whole t.indexed in
     record {
-      answer = c.copy-indexed.ensures.answer ∙ ap (λ ms. option_map length (slice_get ms c.args.number)) is;
-      copied = c.copy-indexed.ensures.copied ∙ ap (λ ms. copied_to c.args.out.now (slice_get ms c.args.number)) is;
+      answer = c.copy_indexed.ensures.answer ∙ ap (λ ms. option_map length (slice_get ms c.args.number)) is;
+      copied = c.copy_indexed.ensures.copied ∙ ap (λ ms. copied_to c.args.out.now (slice_get ms c.args.number)) is;
     }

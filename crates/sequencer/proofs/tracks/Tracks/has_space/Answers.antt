@@ -9,7 +9,7 @@ returns-then-at-len c =
     let v = c.args.self.now.tracks in
     let t = c.index.result.now in
     let here = slice_get_read v.items v.len c.args.group t v.ok.0 (omega arith) c.index.ensures in
-    c.has-space.ensures ∙ sym (ap (λ t. fits_on t c.args.len) here)
+    c.has_space.ensures ∙ sym (ap (λ t. fits_on t c.args.len) here)
 
 pub returns-else-at-len : goal.returns-else-at-len
 returns-else-at-len c =

@@ -16,4 +16,4 @@ returns-else-at-len c =
     let v = c.args.self.now.tracks in
     let t = c.index.result.now in
     let here = slice_get_read v.items v.len c.args.group t v.ok.0 (omega arith) c.index.ensures in
-    c.is-empty.ensures ∙ sym (ap (λ t. is_nil (list_on t)) here)
+    c.is_empty.ensures ∙ sym (ap (λ t. is_nil (list_on t)) here)

@@ -4,23 +4,23 @@ use Rattle.wire.specs.Answers.{answer_format, answer_model}
 use Rattle.envelope.proofs.Envelopes.{opens, reads_none, reads_some}
 use Rattle.wire.proofs.answer.reader.read_answer.Goals as goal
 
-pub returns-in-default : goal.returns-in-default
-returns-in-default c = (refl, λ x w. let o = (opens (answer_format c.args.width) c.args.bytes.now x w).long in search rules)
+pub returns-in_default : goal.returns-in_default
+returns-in_default c = (refl, λ x w. let o = (opens (answer_format c.args.width) c.args.bytes.now x w).long in search rules)
 
-pub returns-in-default·2 : goal.returns-in-default·2
-returns-in-default·2 c = (refl, λ x w. let o = opens (answer_format c.args.width) c.args.bytes.now x w in omega (arith, o.version))
+pub returns-in_default-2 : goal.returns-in_default-2
+returns-in_default-2 c = (refl, λ x w. let o = opens (answer_format c.args.width) c.args.bytes.now x w in omega (arith, o.version))
 
-pub returns-then-not-is-message : goal.returns-then-not-is-message
-returns-then-not-is-message c =
-    let unlike = c.if-not-is-message.ensures in
+pub returns-then-not-is_message : goal.returns-then-not-is_message
+returns-then-not-is_message c =
+    let unlike = c.if-not-is_message.ensures in
     (refl, λ x w. false≢true (unlike ∙ (opens (answer_format c.args.width) c.args.bytes.now x w).test))
 
 pub returns-in-Some : goal.returns-in-Some
 returns-in-Some c =
     let long : 4 ≤ length c.args.bytes.now = search rules in
     let version : get_or c.args.bytes.now 2 0 ≡ 1 = search rules in
-    reads_some (answer_format c.args.width) c.args.bytes.now long version answer_model c.in-Some.answer c.type-inv.bytes
-    c.if-not-is-message.ensures c.in-Some.ensures
+    reads_some (answer_format c.args.width) c.args.bytes.now long version answer_model c.in-Some.answer c.type_inv.bytes
+    c.if-not-is_message.ensures c.in-Some.ensures
 
 pub returns-in-None : goal.returns-in-None
 returns-in-None c =

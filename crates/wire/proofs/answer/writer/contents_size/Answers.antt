@@ -6,10 +6,10 @@ use Rattle.wire.proofs.answer.writer.contents_size.Goals as goal
 
 pub returns : goal.returns
 returns c =
-    let name = c.as-slice-name.ensures in
-    let mark = c.as-slice-mark.ensures in
-    let reads = c.as-slice-reads.ensures in
-    let end = c.blocker-size-end.ensures in
+    let name = c.as_slice-name.ensures in
+    let mark = c.as_slice-mark.ensures in
+    let reads = c.as_slice-reads.ensures in
+    let end = c.blocker_size-end.ensures in
     let last = end.size ∙ ap (λ o. length (blocker_bytes o)) c.blocker.ensures in
     let full = length_contents (answer_model c.args.answer.now) (sym (ap length name.value) ∙ name.size) in
     record {

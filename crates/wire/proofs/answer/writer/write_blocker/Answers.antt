@@ -8,13 +8,13 @@ pub put-next-requires : goal.put-next-requires
 put-next-requires c =
     let b = c.in-Some.blocker in
     let is = ap (λ o. length (blocker_bytes o)) c.in-Some.is ∙ length-append b.name.bytes (b.groups.bits ∷ []) in
-    omega (arith, is, ap length c.as-slice.ensures.value)
+    omega (arith, is, ap length c.as_slice.ensures.value)
 
 pub put-requires : goal.put-requires
 put-requires c =
     let b = c.in-Some.blocker in
     let is = ap (λ o. length (blocker_bytes o)) c.in-Some.is ∙ length-append b.name.bytes (b.groups.bits ∷ []) in
-    omega (arith, is, ap length c.as-slice.ensures.value, c.put-next.ensures.end)
+    omega (arith, is, ap length c.as_slice.ensures.value, c.put-next.ensures.end)
 
 pub returns-in-Some : goal.returns-in-Some
 returns-in-Some c =
@@ -22,7 +22,7 @@ returns-in-Some c =
     let out = c.args.out.now in
     let at = c.args.at in
     let bits = b.groups.bits ∷ [] in
-    let name = c.as-slice.ensures.value in
+    let name = c.as_slice.ensures.value in
     let first = c.put-next.ensures in
     let last = c.put.ensures in
     let is = ap (λ o. length (blocker_bytes o)) c.in-Some.is ∙ length-append b.name.bytes bits in

@@ -11,8 +11,8 @@ use Rattle.wire.proofs.answer.writer.write_values.Goals as goal
 pub loop-value-init : goal.loop-value-init
 loop-value-init c = (overlaid_none c.args.out.now c.args.at, omega arith)
 
-pub put-u64-next-requires : goal.put-u64-next-requires
-put-u64-next-requires c =
+pub put_u64-next-requires : goal.put_u64-next-requires
+put_u64-next-requires c =
     let vs = c.args.values.now in
     let i = c.loop-value.value-index in
     let l = c.loop-value-test.true in
@@ -26,7 +26,7 @@ loop-value-preserved c =
     let vs = c.args.values.now in
     let i = c.loop-value.value-index in
     let l = c.loop-value-test.true in
-    let is = c.put-u64-next.ensures in
+    let is = c.put_u64-next.ensures in
     let size = length_values (take i vs) ∙ ap (λ n. 8 * n) (length-take-le i vs (omega arith)) in (
       joined_written bytes64 vs c.args.out.now _ _ c.args.at _ i 0 l (omega arith) c.loop-value.invariant.0
           (omega (arith, size, c.loop-value.invariant.1)) is.after,

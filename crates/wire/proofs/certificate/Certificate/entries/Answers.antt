@@ -5,9 +5,9 @@ use Rattle.wire.proofs.certificate.Certificate.entries.Goals as goal
 
 pub returns : goal.returns
 returns c =
-    let is = c.as-slice.ensures in
+    let is = c.as_slice.ensures in
     record {
       value = is.items;
-      some = omega (arith, length-map c.as-slice.result.now shown, ap length is.items, c.args.self.now.some);
+      some = omega (arith, length-map c.as_slice.result.now shown, ap length is.items, c.args.self.now.some);
       few = is.few;
     }

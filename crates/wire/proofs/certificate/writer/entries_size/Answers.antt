@@ -11,7 +11,7 @@ loop-entry-preserved c =
     let i = c.loop-entry.entry-index in
     let l = c.loop-entry-test.true in
     let more = ap length (joined_next entry_text es i blank l) ∙ length-append (flat_map entry_text (take i es)) (entry_text (get_or es i blank)) in
-    let mark = c.as-slice.ensures in
+    let mark = c.as_slice.ensures in
     (omega (arith, more, ap length mark.value), omega (arith, mark.few))
 
 pub returns : goal.returns

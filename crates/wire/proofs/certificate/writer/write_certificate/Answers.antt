@@ -11,7 +11,7 @@ returns-then-out-size c =
     let x = certificate_model c.args.certificate.now in
     let fits : NameFits c.name-name.result = search rules in
     let size = size_is x _ c.name-name.ensures _ c.vote-vote.ensures _ c.entries-entries.ensures.value fits _
-    c.entries-size-size.ensures.size in
+    c.entries_size-size.ensures.size in
     let none = refuses (certificate_format c.args.certificate.now.width) x c.args.out.now _ size c.if-out-size.true in
     record { answer = none.0; after = none.1 }
 
@@ -20,13 +20,13 @@ returns c =
     let x = certificate_model c.args.certificate.now in
     let fits : NameFits c.name-name.result = search rules in
     let size = size_is x _ c.name-name.ensures _ c.vote-vote.ensures _ c.entries-entries.ensures.value fits _
-    c.entries-size-size.ensures.size in
+    c.entries_size-size.ensures.size in
     let same = same_contents x _ c.name-name.ensures _ c.vote-vote.ensures _ c.entries-entries.ensures.value in
-    let head = c.write-header-at.ensures in
-    let last = c.write-contents.ensures in
-    let end : c.write-contents.result ≡ c.write-header-at.result + length (certificate_contents x) =
-    omega (arith, last.end, size, c.entries-size-size.ensures.size) in
+    let head = c.write_header-at.ensures in
+    let last = c.write_contents.ensures in
+    let end : c.write_contents.result ≡ c.write_header-at.result + length (certificate_contents x) =
+    omega (arith, last.end, size, c.entries_size-size.ensures.size) in
     let wrote = writes (certificate_format c.args.certificate.now.width) x c.args.out.now _ size _ _ _ _
     c.if-out-size.false head.after head.end
-    (last.after ∙ ap (overlaid c.write-header-at.new.out c.write-header-at.result) same) end in
+    (last.after ∙ ap (overlaid c.write_header-at.new.out c.write_header-at.result) same) end in
     record { answer = wrote.0; after = wrote.1 }

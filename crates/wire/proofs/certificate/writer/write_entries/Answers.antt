@@ -10,8 +10,8 @@ use Rattle.wire.proofs.certificate.writer.write_entries.Goals as goal
 pub loop-entry-init : goal.loop-entry-init
 loop-entry-init c = (overlaid_none c.args.out.now c.args.at, omega arith)
 
-pub write-entry-next-requires : goal.write-entry-next-requires
-write-entry-next-requires c =
+pub write_entry-next-requires : goal.write_entry-next-requires
+write_entry-next-requires c =
     let os = c.args.entries.now in
     let i = c.loop-entry.entry-index in
     let within = joined_within entry_text os i blank c.loop-entry-test.true in
@@ -25,7 +25,7 @@ loop-entry-preserved c =
     let i = c.loop-entry.entry-index in
     let l = c.loop-entry-test.true in
     let next = ap length (joined_next entry_text os i blank l) ∙ length-append (flat_map entry_text (take i os)) (entry_text (get_or os i blank)) in
-    let is = c.write-entry-next.ensures in (
+    let is = c.write_entry-next.ensures in (
       joined_written entry_text os c.args.out.now _ _ c.args.at _ i blank l (omega arith)
           c.loop-entry.invariant.0 c.loop-entry.invariant.1 is.after,
       omega (arith, is.end, c.loop-entry.invariant.1),

@@ -7,7 +7,7 @@ pub returns : goal.returns
 returns c =
     let e = c.args.entry.now in
     let first = c.put-next.ensures in
-    let mark = c.as-slice.ensures.value in
+    let mark = c.as_slice.ensures.value in
     record {
       after =
           overlaid_more c.args.out.now (e.group ∷ e.replica ∷ []) (mark_bytes e.mark) _ _ _ c.args.at _ (omega arith)

@@ -15,5 +15,5 @@ returns-else-at-len c =
     let within : g < length t.indexes.items = omega (arith, t.indexes.ok.0) in
     let i = c.index.result.now in
     let starts = index_starts t.indexes.items (starts_of 1 bs) t.indexed g within i c.index.ensures in
-    c.is-empty.ensures ∙ ap is_nil starts
+    c.is_empty.ensures ∙ ap is_nil starts
     ∙ sym (ap is_nil (cond-true _ _ _ (lt-ltb g _ within) ∙ messages_at 1 (omega arith) bs t.whole g) ∙ is_nil_map _ _)

@@ -8,8 +8,8 @@ use Rattle.sequencer.proofs.Indexing.{index_starts}
 use Rattle.sequencer.specs.PlacesLemmas.{indexed_messages, indexed_starts}
 use Rattle.sequencer.proofs.tape.calls.TapeSequencer.message.Goals as goal
 
-pub copy-indexed-requires : goal.copy-indexed-requires
-copy-indexed-requires c =
+pub copy_indexed-requires : goal.copy_indexed-requires
+copy_indexed-requires c =
     let t = c.args.self.now in
     let bs = t.bytes.items in
     let g : ℕ = c.args.group in
@@ -29,6 +29,6 @@ returns-then-at-len c =
     let is = indexed_messages 1 (omega arith) bs _ _ g c.deref.ensures.value t.whole starts
     ∙ sym (cond-true _ _ _ (lt-ltb g _ within)) in
     record {
-      answer = c.copy-indexed.ensures.answer ∙ ap (λ ms. option_map length (slice_get ms c.args.index)) is;
-      copied = c.copy-indexed.ensures.copied ∙ ap (λ ms. copied_to c.args.out.now (slice_get ms c.args.index)) is;
+      answer = c.copy_indexed.ensures.answer ∙ ap (λ ms. option_map length (slice_get ms c.args.index)) is;
+      copied = c.copy_indexed.ensures.copied ∙ ap (λ ms. copied_to c.args.out.now (slice_get ms c.args.index)) is;
     }

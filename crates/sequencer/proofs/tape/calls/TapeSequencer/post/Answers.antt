@@ -15,14 +15,14 @@ returns c =
     let n : ℕ = length t.indexes.items in
     let g : ℕ = c.args.group in
     let m = c.args.message.now in
-    let fits = and_parts (ltb g n) _ (sym c.if-not-has-space.ensures) in
+    let fits = and_parts (ltb g n) _ (sym c.if-not-has_space.ensures) in
     let e : Entry = record { group = g; message = m } in
     let space = spacious 1 (length bs) t.size (length m) fits.1 in
     let p : Proper 1 e = record { placed = refl; sized = space.sized } in
     let bytes = c.append.ensures.bytes in
     let size = c.append.ensures.size in
     record {
-      answer = c.if-not-has-space.ensures;
+      answer = c.if-not-has_space.ensures;
       appends = λ h.
           ap (λ k. cond (ltb h k) (messages_of 1 t'.bytes.items h) []) c.append.ensures.groups
           ∙ list_more n g h (messages_of 1 bs h) (messages_of 1 t'.bytes.items h) (m ∷ []) (ltb-true g n fits.0)

@@ -1,12 +1,12 @@
 use Rattle.locks.proofs.Turns.{any_end, any_here, any_on}
 use Rattle.locks.proofs.rows.has_unequal.Goals as goal
 
-pub returns-then-is-refuted : goal.returns-then-is-refuted
-returns-then-is-refuted c =
-    any_here _ _ _ c.loop-operation.invariant _ c.loop-operation-test.true c.if-is-refuted.ensures
+pub returns-then-is_refuted : goal.returns-then-is_refuted
+returns-then-is_refuted c =
+    any_here _ _ _ c.loop-operation.invariant _ c.loop-operation-test.true c.if-is_refuted.ensures
 
 pub loop-operation-preserved : goal.loop-operation-preserved
-loop-operation-preserved c = any_on _ _ _ c.loop-operation.invariant _ c.loop-operation-test.true c.if-is-refuted.ensures
+loop-operation-preserved c = any_on _ _ _ c.loop-operation.invariant _ c.loop-operation-test.true c.if-is_refuted.ensures
 
 pub returns : goal.returns
 returns c = any_end _ _ _ c.loop-operation.invariant c.loop-operation-test.false

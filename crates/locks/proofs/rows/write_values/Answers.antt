@@ -3,8 +3,8 @@ use Rattle.locks.proofs.rows.write_values.Goals as goal
 
 pub loop-operation-preserved : goal.loop-operation-preserved
 loop-operation-preserved c = (
-  c.write-one.ensures.rises,
-  write_on _ _ _ _ _ _ c.loop-operation.invariant.1 _ c.loop-operation-test.true _ c.write-one.ensures.after,
+  c.write_one.ensures.rises,
+  write_on _ _ _ _ _ _ c.loop-operation.invariant.1 _ c.loop-operation-test.true _ c.write_one.ensures.after,
 )
 
 pub returns : goal.returns

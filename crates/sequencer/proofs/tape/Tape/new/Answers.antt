@@ -15,7 +15,12 @@ invariant_of-result c =
     let none = c.in_ok-indexes.ensures.1 in
     let indexed = empty_starts limit is none 0 ∙ all_starts_none 1 (length is)
     ∙ ap (λ bs. map (starts_of 1 bs) (range_with_len 0 (length is))) (sym made.items) in
-    (made.capacity, (subst (OnlyRecords 1) (sym made.items) (only_none 1), (indexed, (empty_spacious limit is none, tt))))
+    record {
+      reserved = made.capacity;
+      whole = subst (OnlyRecords 1) (sym made.items) (only_none 1);
+      indexed = indexed;
+      limit = empty_spacious limit is none;
+    }
 
 pub returns : goal.returns
 returns c =

@@ -12,7 +12,7 @@ use votes::vote::Vote;
 
 // Whether the entry's mark is genuine for this vote on the name.
 fn is_genuine<K: MarkScheme>(scheme: &K, name: &Name, vote: Vote, entry: &Entry) -> bool
-    ensures { result ≡ genuine scheme.now (stated name.now vote (shown entry.now)) (mark_bytes entry.now.mark) }
+    ensures { result ≡ K.genuine scheme.now (stated name.now vote (shown entry.now)) (mark_bytes entry.now.mark) }
 {
     let statement = Statement {
         group: entry.group,
@@ -25,7 +25,7 @@ fn is_genuine<K: MarkScheme>(scheme: &K, name: &Name, vote: Vote, entry: &Entry)
 
 /// Whether every entry's mark is genuine for this vote on the name.
 pub fn are_genuine<K: MarkScheme>(scheme: &K, name: &Name, vote: Vote, entries: &[Entry]) -> bool
-    ensures { result ≡ all_genuine (genuine scheme.now) name.now vote (map shown entries.now) }
+    ensures { result ≡ all_genuine (K.genuine scheme.now) name.now vote (map shown entries.now) }
 {
     for entry in entries {
         if !is_genuine(scheme, name, vote, entry) {

@@ -73,7 +73,7 @@ impl Replica {
         scheme: &K,
         certificate: &Certificate,
     ) -> Result<PendingPlace, CertificateFault>
-        ensures { judgement result ≡ judged (config self.now) (genuine scheme.now) (certificate_model certificate.now) (pending_at (config self.now) (view self.now) (certificate_model certificate.now).name) }
+        ensures { judgement result ≡ judged (config self.now) (K.genuine scheme.now) (certificate_model certificate.now) (pending_at (config self.now) (view self.now) (certificate_model certificate.now).name) }
     {
         let name = certificate.name();
         let vote = certificate.vote();
@@ -115,8 +115,8 @@ impl Replica {
         scheme: &K,
         certificate: &Certificate,
     ) -> Result<(), CertificateFault>
-        ensures state { view self.new ≡ (on_certificate (config self.old) (genuine scheme.now) (view self.old) (certificate_model certificate.now)).0 }
-        ensures outcome { certificate_outcome result ≡ (on_certificate (config self.old) (genuine scheme.now) (view self.old) (certificate_model certificate.now)).1 }
+        ensures state { view self.new ≡ (on_certificate (config self.old) (K.genuine scheme.now) (view self.old) (certificate_model certificate.now)).0 }
+        ensures outcome { certificate_outcome result ≡ (on_certificate (config self.old) (K.genuine scheme.now) (view self.old) (certificate_model certificate.now)).1 }
         ensures fixed { config self.new ≡ config self.old }
     {
         let name = certificate.name();

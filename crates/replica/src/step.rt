@@ -30,8 +30,8 @@ impl Replica {
         scheme: &K,
         message: &[u8],
     ) -> Result<Option<Reply>, DeliveryFault>
-        ensures state { view self.new ≡ (acted (config self.old) (genuine scheme.now) (view self.old) (parsed size message.now)).0 }
-        ensures outcome { outcome result ≡ (acted (config self.old) (genuine scheme.now) (view self.old) (parsed size message.now)).1 }
+        ensures state { view self.new ≡ (acted (config self.old) (K.genuine scheme.now) (view self.old) (parsed K.size message.now)).0 }
+        ensures outcome { outcome result ≡ (acted (config self.old) (K.genuine scheme.now) (view self.old) (parsed K.size message.now)).1 }
         ensures fixed { config self.new ≡ config self.old }
     {
         if let Ok(body) = read_body(message) {
@@ -54,8 +54,8 @@ impl Replica {
         message: &[u8],
     ) -> Result<Option<Reply>, DeliveryFault>
         requires { self.old.place + 1 < 2 ^ 64 }
-        ensures state { view self.new ≡ (stepped (config self.old) (genuine scheme.now) size (view self.old) message.now).0 }
-        ensures outcome { outcome result ≡ (stepped (config self.old) (genuine scheme.now) size (view self.old) message.now).1 }
+        ensures state { view self.new ≡ (stepped (config self.old) (K.genuine scheme.now) K.size (view self.old) message.now).0 }
+        ensures outcome { outcome result ≡ (stepped (config self.old) (K.genuine scheme.now) K.size (view self.old) message.now).1 }
         ensures fixed { config self.new ≡ config self.old }
     {
         self.place += 1;

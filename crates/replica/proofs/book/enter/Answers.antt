@@ -14,11 +14,11 @@ returns-in-Err c =
     let room : c.args.known < length xs = omega (arith, c.requires.0, c.args.book.now.ok.0) in
     absurd (not_refused xs c.args.known c.args.name room c.requires.1.0 c.requires.1.1 _
     (c.in-Err.ensures.answer
-    ∙ ap (λ (rs : Book). insert_answer by_bytes rs c.args.known c.args.name) c.deref-mut.ensures.value))
+    ∙ ap (λ (rs : Book). insert_answer by_bytes rs c.args.known c.args.name) c.deref_mut.ensures.value))
 
 pub returns-in-Ok : goal.returns-in-Ok
 returns-in-Ok c =
-    let same = c.deref-mut.ensures.value in
+    let same = c.deref_mut.ensures.value in
     let whole = with_items_is c.args.book.now c.insert.new.rows
     (omega (arith, c.insert.auto.rows, ap length same, c.args.book.now.ok.0)) in
     record {

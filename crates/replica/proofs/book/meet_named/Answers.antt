@@ -15,7 +15,7 @@ returns-in-Ok c =
     let d = c.args.delivered in
     let at = c.in-Ok.at in
     let few : n ≤ length xs = omega (arith, c.requires.0, c.args.book.now.ok.0) in
-    let same = c.deref-mut.ensures.value in
+    let same = c.deref_mut.ensures.value in
     let whole = with_items_is c.args.book.now c.meet.new.book
     (omega (arith, c.meet.auto.book, ap length same, c.args.book.now.ok.0)) in
     let m = found_met xs n x d few c.requires.1 at

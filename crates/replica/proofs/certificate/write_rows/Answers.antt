@@ -8,11 +8,11 @@ use Rattle.replica.proofs.certificate.write_rows.Goals as goal
 pub returns : goal.returns
 returns c =
     let p = c.args.partition.now in
-    let same = c.deref-mut.ensures.value in
-    let whole = with_items_is c.args.rows.now c.write-values.new.rows
-    (omega (arith, c.write-values.auto.rows, ap length same, c.args.rows.now.ok.0)) in
+    let same = c.deref_mut.ensures.value in
+    let whole = with_items_is c.args.rows.now c.write_values.new.rows
+    (omega (arith, c.write_values.auto.rows, ap length same, c.args.rows.now.ok.0)) in
     record {
-      after = whole ∙ c.write-values.ensures.after
+      after = whole ∙ c.write_values.ensures.after
           ∙ ap (λ (rs : Rows). written_by_all p.groups p.group c.args.operations.now rs) same;
-      rises = ap (rising by_number) whole ∙ c.write-values.ensures.rises;
+      rises = ap (rising by_number) whole ∙ c.write_values.ensures.rises;
     }

@@ -15,67 +15,67 @@ returns-in-Ok g c =
     let is = g.K.MarkScheme.genuine c.args.scheme.now in
     let m = view c.args.self.now in
     let w = g.K.MarkScheme.size in
-    let e = parsed_body w bs _ _ (read_body bs (Ok c.in-Ok.body) c.in-Ok.ensures) c.name-of-name.ensures in
+    let e = parsed_body w bs _ _ (read_body bs (Ok c.in-Ok.body) c.in-Ok.ensures) c.name_of-name.ensures in
     record {
-      state = state_on C is m w bs _ e _ c.take-body.ensures.state;
-      outcome = outcome_on C is m w bs _ e _ c.take-body.ensures.outcome;
-      fixed = c.take-body.ensures.fixed;
+      state = state_on C is m w bs _ e _ c.take_body.ensures.state;
+      outcome = outcome_on C is m w bs _ e _ c.take_body.ensures.outcome;
+      fixed = c.take_body.ensures.fixed;
     }
 
-pub returns-in-Ok-read-proposal : goal.returns-in-Ok-read-proposal
-returns-in-Ok-read-proposal g c =
+pub returns-in-Ok-read_proposal : goal.returns-in-Ok-read_proposal
+returns-in-Ok-read_proposal g c =
     let bs = c.args.message.now in
     let C = config c.args.self.now in
     let is = g.K.MarkScheme.genuine c.args.scheme.now in
     let m = view c.args.self.now in
     let w = g.K.MarkScheme.size in
-    let none = read_body bs (Err c.in-default.field-0) c.in-default.ensures in
-    let e = parsed_proposal w bs none _ (read_proposal bs (Ok c.in-Ok-read-proposal.name) c.in-Ok-read-proposal.ensures) in
+    let none = read_body bs (Err c.in_default.field-0) c.in_default.ensures in
+    let e = parsed_proposal w bs none _ (read_proposal bs (Ok c.in-Ok-read_proposal.name) c.in-Ok-read_proposal.ensures) in
     record {
-      state = state_on C is m w bs _ e _ c.take-proposal.ensures.state;
-      outcome = outcome_on C is m w bs _ e _ c.take-proposal.ensures.outcome;
-      fixed = c.take-proposal.ensures.fixed;
+      state = state_on C is m w bs _ e _ c.take_proposal.ensures.state;
+      outcome = outcome_on C is m w bs _ e _ c.take_proposal.ensures.outcome;
+      fixed = c.take_proposal.ensures.fixed;
     }
 
-pub returns-in-err-certificate : goal.returns-in-err-certificate
-returns-in-err-certificate g c =
+pub returns-in_err-certificate : goal.returns-in_err-certificate
+returns-in_err-certificate g c =
     let bs = c.args.message.now in
     let C = config c.args.self.now in
     let is = g.K.MarkScheme.genuine c.args.scheme.now in
     let m = view c.args.self.now in
     let w = g.K.MarkScheme.size in
-    let none = read_body bs (Err c.in-default.field-0) c.in-default.ensures in
-    let none' = read_proposal bs (Err c.in-default-read-proposal.field-0) c.in-default-read-proposal.ensures in
-    let wide = ap (λ n. certificate_of n bs) (sym c.mark-size.ensures) in
-    let e = parsed_other w bs none none' (wide ∙ c.in-err-certificate.ensures.0) in
-    let p = err_from_is_err_and c.from-residual.result c.from-residual.ensures.1 in
+    let none = read_body bs (Err c.in_default.field-0) c.in_default.ensures in
+    let none' = read_proposal bs (Err c.in_default-read_proposal.field-0) c.in_default-read_proposal.ensures in
+    let wide = ap (λ n. certificate_of n bs) (sym c.mark_size.ensures) in
+    let e = parsed_other w bs none none' (wide ∙ c.in_err-certificate.ensures.0) in
+    let p = err_from_is_err_and c.from_residual.result c.from_residual.ensures.1 in
     record {
       state = state_on C is m w bs _ e _ refl;
       outcome =
           outcome_on C is m w bs _ e _
-          (ap outcome p.1 ∙ ap Err (p.2 ∙ ap Certificate c.in-err-certificate.ensures.1));
+          (ap outcome p.1 ∙ ap Err (p.2 ∙ ap Certificate c.in_err-certificate.ensures.1));
       fixed = refl;
     }
 
-pub returns-in-err-take-certificate : goal.returns-in-err-take-certificate
-returns-in-err-take-certificate g c =
+pub returns-in_err-take_certificate : goal.returns-in_err-take_certificate
+returns-in_err-take_certificate g c =
     let bs = c.args.message.now in
     let C = config c.args.self.now in
     let is = g.K.MarkScheme.genuine c.args.scheme.now in
     let m = view c.args.self.now in
     let w = g.K.MarkScheme.size in
-    let none = read_body bs (Err c.in-default.field-0) c.in-default.ensures in
-    let wide = ap (λ n. certificate_of n bs) (sym c.mark-size.ensures) in
-    let e = parsed_certificate w bs none _ (wide ∙ c.in-ok-certificate.ensures) in
-    let p = err_from_is_err_and c.from-residual-in-err-take-certificate.result
-    c.from-residual-in-err-take-certificate.ensures.1 in
+    let none = read_body bs (Err c.in_default.field-0) c.in_default.ensures in
+    let wide = ap (λ n. certificate_of n bs) (sym c.mark_size.ensures) in
+    let e = parsed_certificate w bs none _ (wide ∙ c.in_ok-certificate.ensures) in
+    let p = err_from_is_err_and c.from_residual-in_err-take_certificate.result
+    c.from_residual-in_err-take_certificate.ensures.1 in
     record {
-      state = state_on C is m w bs _ e _ c.take-certificate.ensures.state;
+      state = state_on C is m w bs _ e _ c.take_certificate.ensures.state;
       outcome =
           outcome_on C is m w bs _ e _
           (ap outcome p.1 ∙ ap Err p.2
-          ∙ ap certificate_outcome (sym c.in-err-take-certificate.was) ∙ c.take-certificate.ensures.outcome);
-      fixed = c.take-certificate.ensures.fixed;
+          ∙ ap certificate_outcome (sym c.in_err-take_certificate.was) ∙ c.take_certificate.ensures.outcome);
+      fixed = c.take_certificate.ensures.fixed;
     }
 
 pub returns : goal.returns
@@ -85,13 +85,13 @@ returns g c =
     let is = g.K.MarkScheme.genuine c.args.scheme.now in
     let m = view c.args.self.now in
     let w = g.K.MarkScheme.size in
-    let none = read_body bs (Err c.in-default.field-0) c.in-default.ensures in
-    let wide = ap (λ n. certificate_of n bs) (sym c.mark-size.ensures) in
-    let e = parsed_certificate w bs none _ (wide ∙ c.in-ok-certificate.ensures) in
+    let none = read_body bs (Err c.in_default.field-0) c.in_default.ensures in
+    let wide = ap (λ n. certificate_of n bs) (sym c.mark_size.ensures) in
+    let e = parsed_certificate w bs none _ (wide ∙ c.in_ok-certificate.ensures) in
     record {
-      state = state_on C is m w bs _ e _ c.take-certificate.ensures.state;
+      state = state_on C is m w bs _ e _ c.take_certificate.ensures.state;
       outcome =
           outcome_on C is m w bs _ e _
-          (ap certificate_outcome (sym c.in-ok-take-certificate.was) ∙ c.take-certificate.ensures.outcome);
-      fixed = c.take-certificate.ensures.fixed;
+          (ap certificate_outcome (sym c.in_ok-take_certificate.was) ∙ c.take_certificate.ensures.outcome);
+      fixed = c.take_certificate.ensures.fixed;
     }

@@ -18,16 +18,16 @@ pub returns : goal.returns
 unfolding holding
 returns c =
     let t = transaction c.args.place in
-    let pushed = ap (map transaction) c.push-reserved.ensures.items ∙ map_push transaction _ c.args.place in
+    let pushed = ap (map transaction) c.push_reserved.ensures.items ∙ map_push transaction _ c.args.place in
     let p = c.args.self.now.partition in
     let reads =
-    c.read-values-reads.ensures
+    c.read_values-reads.ensures
     ∙ ap (λ (rows : Rows). read_values p.groups p.group rows c.operations.result.now) c.deref.ensures.value
     ∙ ap (read_values p.groups p.group (vec_items c.args.self.now.rows)) c.operations.ensures.value in
     record {
       state =
-          ap (holding (view c.enter-new.new.self)) pushed
-          ∙ ap (λ (m : ReplicaModel). holding m (m.pending ++ (t ∷ []))) c.enter-new.ensures.state;
+          ap (holding (view c.enter_new.new.self)) pushed
+          ∙ ap (λ (m : ReplicaModel). holding m (m.pending ++ (t ∷ []))) c.enter_new.ensures.state;
       reply = ap (λ (vs : List ℕ). let reply : ReplyModel = record { name = t.name; vote = Commit; state = Pending; ground = ground.Pending; reads = vs } in let o : Outcome = Ok (Some reply) in o) reads;
-      fixed = c.enter-new.ensures.fixed;
+      fixed = c.enter_new.ensures.fixed;
     }

@@ -4,12 +4,12 @@
 set -eu
 
 cd "$(dirname "$0")/.."
-kit=$(dirname "$(dirname "$(rt doc)")")
 made=$(mktemp -d)
 trap 'rm -rf "$made"' EXIT
 
-rt staticlib digest >"$made/log" 2>&1 || { cat "$made/log"; exit 1; }
-cc -O2 -Wall -Wextra -o "$made/sha256" bench/sha256.c target/staticlib/libdigest.a "$kit/lib/librattle_c.a"
+(cd crates/digest_c && rt lib) >"$made/log" 2>&1 || { cat "$made/log"; exit 1; }
+cp crates/digest_c/out/libdigest_c.a "$made/libdigest.a"
+cc -O2 -Wall -Wextra -o "$made/sha256" bench/sha256.c "$made/libdigest.a"
 "$made/sha256"
 
 # openssl counts in thousands of bytes.

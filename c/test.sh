@@ -2,11 +2,11 @@
 # Builds the naming program against the proved library, runs it on good and bad input, and compares the names with
 # those that the system's sha256sum gives. Run from the top of the repository.
 set -eu
-kit=$(dirname "$(dirname "$(rt doc)")")
 out=$(mktemp -d)
 trap 'rm -rf "$out"' EXIT
-rt staticlib wire > "$out/log" 2>&1 || { cat "$out/log"; exit 1; }
-"${CC:-cc}" -std=c11 -O2 -Wall -Wextra -Werror -Ic -o "$out/name" c/name.c target/staticlib/libwire.a "$kit/lib/librattle_c.a"
+(cd crates/wire_c && rt lib) > "$out/log" 2>&1 || { cat "$out/log"; exit 1; }
+cp crates/wire_c/out/libwire_c.a "$out/libwire.a"
+"${CC:-cc}" -std=c11 -O2 -Wall -Wextra -Werror -Ic -o "$out/name" c/name.c "$out/libwire.a"
 
 # The independent name of a body: SHA-256 of all bytes after the two of the length.
 hashed() {

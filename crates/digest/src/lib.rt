@@ -56,9 +56,8 @@ pub fn hmac(key: &[u8; 32], message: &[u8]) -> [u8; 32]
     keyed_hash(key, OUTER_PAD, &keyed_hash(key, INNER_PAD, message))
 }
 
-/// Writes the SHA-256 of the message into `digest`; for callers in C.
-#[unsafe(no_mangle)]
-pub extern "C" fn club_register_sha256(message: &[u8], digest: &mut [u8; 32])
+/// Writes the SHA-256 of the message into `digest`; for callers in C, by the crate `digest_c`.
+pub fn club_register_sha256(message: &[u8], digest: &mut [u8; 32])
     ensures { digest.new ≡ sha256 message.now }
 {
     let made = sha256(message);

@@ -1,5 +1,5 @@
 -- Bytes that are a message, by their first four; what a writer leaves; and what one writing gives for every kind.
-use Rattle.std.proofs.Common.{◌≡◌, ℕ, ◌+◌, ◌-◌, ◌*◌, ◌/◌, ◌%◌, ◌<◌, ◌≤◌, Bool, true, false, ◌&&◌, eqb, leb, List, [], ◌∷◌, ◌++◌, length, get_or, take, drop, Some, None, Ok, Err, Result, sym, refl, ap, ◌∙◌, subst, arith, w8, Fits}
+use Rattle.std.proofs.Common.{◌≡◌, ℕ, ◌+◌, ◌-◌, ◌*◌, ◌/◌, ◌%◌, ◌<◌, ◌≤◌, Bool, true, ◌&&◌, eqb, leb, List, [], ◌∷◌, ◌++◌, length, get_or, take, drop, Some, None, Ok, Err, sym, refl, ap, ◌∙◌, subst, arith, w8, Fits}
 use Rattle.std.proofs.lemmas.List.{take_all}
 use Rattle.std.proofs.lemmas.Bool.{and_from, and_parts, cond-false, cond-true, eq-eqb, eqb-true, le-leb, leb-true, lt-leb}
 use Rattle.octets.specs.Buffers.{overlaid}
@@ -7,7 +7,6 @@ use Rattle.octets.proofs.Begins.{begins}
 use Rattle.octets.proofs.Overlays.{overlaid_more}
 use Rattle.envelope.specs.Formats.{Format, OneWriting, Reads, ReadsContents, RoundTrip, Writing, write_after, write_answer, written}
 use Rattle.envelope.specs.Messages.{Short, header, largest_message, message}
-use Rattle.envelope.specs.declared.fault.ReadFault.{ReadFault}
 use Rattle.envelope.specs.declared.fault.ReadFault.TheVariants.{Malformed}
 use Rattle.envelope.specs.declared.fault.WriteFault.TheVariants.{ShortBuffer}
 

@@ -1,5 +1,5 @@
 -- The bits of the groups that a transaction names, one more at each turn.
-use Rattle.std.proofs.Common.{◌≡◌, ℕ, zero, suc, ◌+◌, ◌*◌, ◌%◌, ◌^◌, ◌<◌, ◌≤◌, Bool, true, false, cond, sym, refl, ap, ◌∙◌, mod-eq_of_lt, one-mul, add-one, arith, lit<, pow_mono}
+use Rattle.std.proofs.Common.{◌≡◌, ℕ, zero, suc, ◌+◌, ◌*◌, ◌%◌, ◌^◌, ◌<◌, ◌≤◌, Bool, true, false, cond, sym, ap, ◌∙◌, mod-eq_of_lt, one-mul, add-one, arith, lit<, pow_mono}
 use native.Mathlib.Nat.{pow-succ'}
 use Rattle.locks.specs.Groups.{bits_below}
 

@@ -1,7 +1,7 @@
 -- What one seal changes among the holders: the allowance of its own replica, and nothing else.
 use Rattle.std.proofs.Common.{◌≡◌, ℕ, ◌+◌, ◌*◌, ◌<◌, Bool, true, false, cond, ◌&&◌, eqb, ltb, List, length, get_or, set, Some, None, Option, sym, refl, ap, ◌∙◌, ⊎_elim, arith, get_or-set_other, get_or-set_same}
 use Rattle.std.specs.Str.{bytes_eq}
-use Rattle.std.proofs.lemmas.Bool.{and_parts, cases_eq, cond-true, ltb-true}
+use Rattle.std.proofs.lemmas.Bool.{and_parts, cases_eq, ltb-true}
 use Rattle.marks.specs.Seals.{no_holder, place_of, seal_at, seal_of, spent_at}
 use Rattle.marks.specs.declared.seals.Holder.{Holder}
 use Rattle.votes.specs.declared.statement.Statement.{Statement}

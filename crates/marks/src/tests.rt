@@ -34,7 +34,7 @@ fn a_seal_is_given_once_for_each_of_the_allowance(rt: HostRuntime) {
     assert_eq!(rt; seals.give(&STATEMENT, &mut out), Ok(()));
     let expected =
         b"\x3b\x9a\x56\x2b\x80\x28\x63\xda\xcd\x98\xeb\x9f\x88\x62\x2f\xc6\xbd\x31\x7e\xea\x20\x91\x9c\xf7\xad\xd2\x45\x54\xe0\x30\xab\xda";
-    assert!(rt; &out[0..32] == expected && out[32] == 0xee);
+    assert!(rt; &out[0..32] == expected.as_slice() && out[32] == 0xee);
     assert!(rt; seals.check(&STATEMENT, &out[0..32]));
     out[31] ^= 1;
     assert!(rt;
@@ -49,6 +49,6 @@ fn a_stamp_is_the_statement(rt: HostRuntime) {
     let mut out = [0xee; 37];
     let mut stamps = Stamps;
     assert_eq!(rt; stamps.give(&STATEMENT, &mut out), Ok(()));
-    assert!(rt; &out[0..36] == &STATEMENT.to_bytes() && out[36] == 0xee);
+    assert!(rt; &out[0..36] == STATEMENT.to_bytes().as_slice() && out[36] == 0xee);
     assert!(rt; stamps.check(&STATEMENT, &out[0..36]) && !stamps.check(&STATEMENT, &out));
 }

@@ -1,9 +1,8 @@
 -- What a message is parsed as, by what the readers say of it; and the step on it.
-use Rattle.std.proofs.Common.{◌≡◌, ℕ, ◌+◌, ◌≤◌, Bool, List, Some, None, Option, sym, refl, ap, ◌∙◌, arith}
+use Rattle.std.proofs.Common.{◌≡◌, ℕ, Bool, List, Some, None, Option, sym, refl, ap, ◌∙◌, arith}
 use Rattle.bodies.specs.Bodies.{BodyModel}
 use Rattle.bodies.specs.Naming.{name_of}
 use Rattle.envelope.specs.declared.name.Name.{Name}
-use Rattle.readings.specs.Answers.{answer_of}
 use Rattle.readings.specs.Bodies.{body_of}
 use Rattle.readings.specs.Certificates.{certificate_of}
 use Rattle.readings.specs.Kinds.{count}

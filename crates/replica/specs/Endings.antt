@@ -5,7 +5,6 @@ use Rattle.locks.specs.LocalRows.{Rows}
 use Rattle.votes.specs.declared.fault.CertificateFault.{CertificateFault}
 use Rattle.votes.specs.declared.fault.DeliveryFault.TheVariants.{Certificate}
 use Rattle.votes.specs.declared.vote.Vote.{Vote}
-use Rattle.votes.specs.declared.vote.Vote.TheVariants.{Commit, Abort}
 use Rattle.replica.specs.Meetings.{certificate_of, met_named}
 use Rattle.replica.specs.Models.{Config, ReplicaModel, Transaction, is_named}
 use Rattle.replica.specs.Searches.{first, without}

@@ -1,5 +1,5 @@
 -- An entry of a book meets a message.
-use Rattle.std.specs.Prelude.{ℕ, zero, suc, Bool, true, false, List, [], ◌∷◌, Some, None, Option}
+use Rattle.std.specs.Prelude.{ℕ, zero, suc, Bool, true, false, [], ◌∷◌, Some, None, Option}
 use Rattle.envelope.specs.declared.name.Name.{Name}
 use Rattle.table.specs.Orders.{by_bytes}
 use Rattle.table.specs.Rows.{changed, lookup}
@@ -7,7 +7,6 @@ use Rattle.votes.specs.declared.state.State.{State}
 use Rattle.votes.specs.declared.state.State.TheVariants.{Declined}
 use Rattle.votes.specs.declared.vote.Vote.{Vote}
 use Rattle.votes.specs.declared.vote.Vote.TheVariants.{Commit, Abort}
-use Rattle.table.specs.declared.row.Row.{Row}
 use Rattle.replica.specs.Models.{Book}
 use Rattle.replica.specs.Steps.{state_after}
 use Rattle.replica.specs.declared.book.Delivered.{Delivered}

@@ -1,5 +1,5 @@
 -- What a message does to a replica, and what the replica answers.
-use Rattle.std.specs.Prelude.{ℕ, ◌+◌, Bool, true, false, cond, List, [], ◌∷◌, ◌++◌, length, Some, None, Ok, Err, Option, Result, nat_le, nat_lt}
+use Rattle.std.specs.Prelude.{ℕ, ◌+◌, Bool, cond, List, [], ◌∷◌, ◌++◌, length, Some, None, Ok, Err, Option, Result, nat_le, nat_lt}
 use Rattle.bodies.specs.declared.operation.Operation.{Operation}
 use Rattle.envelope.specs.declared.fault.ReadFault.TheVariants.{Malformed}
 use Rattle.envelope.specs.declared.name.Name.{Name}

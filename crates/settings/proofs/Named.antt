@@ -1,5 +1,5 @@
 -- The groups that a transaction names, as a test and as the protocol has them.
-use Rattle.std.proofs.Common.{◌≡◌, ℕ, Bool, true, false, eqb, ◌↔◌, List, [], ◌∷◌, sym, refl, ap, ◌∙◌, inl, inr, arith}
+use Rattle.std.proofs.Common.{◌≡◌, ℕ, Bool, true, false, eqb, List, [], ◌∷◌, sym, refl, ap, ◌∙◌, inl, inr, arith}
 use mathlib.Core.Bool.{false≢true}
 use mathlib.Core.Option.{Option, none, some}
 use Rattle.bodies.specs.declared.operation.Operation.{Operation}
@@ -8,11 +8,10 @@ use Rattle.envelope.specs.declared.name.Name.{Name}
 use Rattle.locks.specs.Groups.{group_of, is_local, key_of, names_group}
 use Rattle.protocol.specs.Conflicts.{Touches}
 use Rattle.protocol.specs.Lists.{In}
-use Rattle.protocol.specs.Tests.{any}
 use Rattle.protocol.specs.Transactions.{Names, by_read, by_compare, by_write}
 use Rattle.protocol.proofs.Tests.{any_in, any_out, eq_of, same, same_of}
 use Rattle.settings.specs.Named.{NamedGroups}
-use Rattle.settings.specs.Settings.{Sizes, setting}
+use Rattle.settings.specs.Settings.{setting}
 use Rattle.settings.specs.Transactions.{compares_at, reads_at, txn, write_over, writes_over}
 
 -- a write that came before stays, or is written over

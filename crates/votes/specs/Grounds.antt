@@ -1,6 +1,5 @@
 -- The grounds of an answer: the byte of each, and what stands at the end of the answer for a blocker.
 use Rattle.std.specs.Prelude.{◌≡◌, ℕ, ◌/◌, ◌%◌, ◌^◌, ◌<◌, Bool, cond, ◌&&◌, List, [], ◌∷◌, ◌++◌, length, take, Some, None, Option, ◌==◌, nat_lt, slice_index}
-use Rattle.envelope.specs.declared.name.Name.{Name}
 use Rattle.votes.specs.Bytes.{with_byte}
 use Rattle.votes.specs.declared.ground.Blocker.{Blocker}
 use Rattle.votes.specs.declared.ground.Ground.{Ground}

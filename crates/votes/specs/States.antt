@@ -1,5 +1,5 @@
 -- The states of a transaction at a replica, as bytes.
-use Rattle.std.specs.Prelude.{ℕ, List, [], ◌∷◌, Option}
+use Rattle.std.specs.Prelude.{ℕ, [], ◌∷◌, Option}
 use Rattle.votes.specs.Bytes.{with_byte}
 use Rattle.votes.specs.declared.state.State.{State}
 use Rattle.votes.specs.declared.state.State.TheVariants.{Pending, Committed, RolledBack, Declined}

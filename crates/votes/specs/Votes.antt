@@ -1,5 +1,5 @@
 -- Votes, as bytes.
-use Rattle.std.specs.Prelude.{ℕ, List, [], ◌∷◌, Option}
+use Rattle.std.specs.Prelude.{ℕ, [], ◌∷◌, Option}
 use Rattle.votes.specs.Bytes.{with_byte}
 use Rattle.votes.specs.declared.vote.Vote.{Vote}
 use Rattle.votes.specs.declared.vote.Vote.TheVariants.{Commit, Abort}

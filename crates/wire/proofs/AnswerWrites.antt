@@ -1,8 +1,6 @@
 -- An answer as the code has it, and as it is written.
 use Rattle.std.proofs.Common.{◌≡◌, ℕ, ◌+◌, ◌*◌, ◌≤◌, List, [], ◌∷◌, ◌++◌, length, refl, ap, ◌∙◌, append_assoc, arith, length-append}
-use Rattle.std.specs.List.{flat_map}
 use Rattle.octets.specs.Buffers.{overlaid}
-use Rattle.octets.specs.Numbers.{bytes64}
 use Rattle.octets.proofs.Overlays.{overlaid_more}
 use Rattle.wire.specs.Answers.{AnswerModel, answer_contents, head_bytes, head_of, values_bytes}
 use Rattle.wire.specs.Fields.{NameFits, name_bytes}

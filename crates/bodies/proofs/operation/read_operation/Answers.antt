@@ -1,4 +1,4 @@
-use Rattle.std.proofs.Common.{◌≤◌, length, rules}
+use Rattle.std.proofs.Common.{rules}
 use Rattle.octets.proofs.Begins.{uncons}
 use Rattle.bodies.proofs.OneOperation.{no_key, no_value}
 use Rattle.bodies.proofs.operation.read_operation.Goals as goal

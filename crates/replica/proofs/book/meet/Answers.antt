@@ -1,4 +1,4 @@
-use Rattle.std.proofs.Common.{◌≡◌, refl, ap}
+use Rattle.std.proofs.Common.{refl, ap}
 use Rattle.replica.specs.Steps.{state_after}
 use Rattle.replica.specs.declared.book.Delivered.{Delivered}
 use Rattle.votes.specs.declared.state.State.TheVariants.{Pending}

@@ -1,4 +1,4 @@
-use Rattle.std.proofs.Common.{◌≡◌, length, sym, ap, ◌∙◌, append-nil, arith, true-eqb, false-eqb}
+use Rattle.std.proofs.Common.{length, sym, ap, ◌∙◌, append-nil, true-eqb, false-eqb}
 use Rattle.wire.specs.Fields.{name_bytes}
 use Rattle.wire.proofs.OneName.{name_alone, same_name}
 use Rattle.wire.proofs.proposal.read_contents.Goals as goal

@@ -1,4 +1,4 @@
-use Rattle.std.proofs.Common.{◌≡◌, ◌≤◌, length, refl, arith, rules}
+use Rattle.std.proofs.Common.{rules}
 use Rattle.envelope.proofs.Envelopes.{refuses, writes}
 use Rattle.wire.specs.Proposals.{proposal_format}
 use Rattle.wire.proofs.proposal.write_proposal.Goals as goal

@@ -1,4 +1,4 @@
-use Rattle.std.proofs.Common.{◌≡◌, sym, ap, ◌∙◌, arith, rules}
+use Rattle.std.proofs.Common.{sym, ap, ◌∙◌, arith, rules}
 use Rattle.bodies.specs.Operations.{writes_apart}
 use Rattle.octets.proofs.Begins.{uncons}
 use Rattle.bodies.proofs.BodyParts.{no_nonce, no_operations, whole, two_writes}

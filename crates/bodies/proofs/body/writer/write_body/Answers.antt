@@ -1,4 +1,4 @@
-use Rattle.std.proofs.Common.{◌≡◌, ◌+◌, length, sym, ap, ◌∙◌, arith}
+use Rattle.std.proofs.Common.{◌+◌, length, ap, ◌∙◌}
 use Rattle.octets.specs.Buffers.{overlaid}
 use Rattle.envelope.proofs.Envelopes.{refuses, writes}
 use Rattle.bodies.specs.Bodies.{body_format, body_model}

@@ -1,4 +1,4 @@
-use Rattle.std.proofs.Common.{◌≡◌, length, sym, refl, ap, ◌∙◌, arith, rules}
+use Rattle.std.proofs.Common.{◌≡◌, length, refl, rules}
 use Rattle.std.proofs.lemmas.Bool.{true≢false}
 use Rattle.marks.proofs.Giving.{beyond, marked, says_given}
 use Rattle.marks.proofs.stamps.StampsMarkScheme.give.Goals as goal

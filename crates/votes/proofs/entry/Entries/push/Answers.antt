@@ -1,6 +1,6 @@
-use Rattle.std.proofs.Common.{◌≡◌, ℕ, ◌+◌, ◌<◌, List, [], ◌∷◌, ◌++◌, map, length, take, set, ap, ◌∙◌, arith, rules}
-use Rattle.std.proofs.lemmas.List.{length-map, length-take, map-append, take_more_set}
-use Rattle.votes.specs.Entries.{EntryModel, most_entries, shown}
+use Rattle.std.proofs.Common.{◌≡◌, ℕ, ◌<◌, List, [], ◌∷◌, map, length, take, ap, ◌∙◌, arith, rules}
+use Rattle.std.proofs.lemmas.List.{length-map, map-append, take_more_set}
+use Rattle.votes.specs.Entries.{most_entries, shown}
 use Rattle.votes.specs.declared.entry.Entry.{Entry}
 use Rattle.votes.proofs.Bounded.{place_left}
 use Rattle.votes.proofs.entry.Entries.push.Goals as goal

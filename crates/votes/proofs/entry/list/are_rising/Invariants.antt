@@ -1,4 +1,4 @@
-use Rattle.std.proofs.Common.{◌≡◌, ◌≤◌, map, drop}
+use Rattle.std.proofs.Common.{◌≡◌, map, drop}
 use Rattle.votes.specs.Entries.{rises, shown}
 use Rattle.votes.proofs.entry.list.are_rising.Given as goal
 

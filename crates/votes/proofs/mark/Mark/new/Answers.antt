@@ -1,4 +1,4 @@
-use Rattle.std.proofs.Common.{◌≡◌, ℕ, ◌+◌, List, length, take, replicate, refl, ap, ◌∙◌, arith}
+use Rattle.std.proofs.Common.{◌≡◌, ℕ, ◌+◌, List, length, take, ap, ◌∙◌, arith}
 use Rattle.octets.specs.Buffers.{overlaid}
 use Rattle.octets.proofs.Overlays.{front_overlaid}
 use Rattle.votes.proofs.mark.Mark.new.Goals as goal

@@ -1,5 +1,4 @@
-use Rattle.std.proofs.Common.{length, ap, ◌∙◌, arith, rules}
-use Rattle.std.proofs.lemmas.List.{length-take}
+use Rattle.std.proofs.Common.{rules}
 use Rattle.votes.proofs.Bounded.{used_part}
 use Rattle.votes.proofs.values.Values.as_slice.Goals as goal
 

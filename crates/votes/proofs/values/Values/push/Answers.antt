@@ -1,4 +1,4 @@
-use Rattle.std.proofs.Common.{◌<◌, length, arith, rules}
+use Rattle.std.proofs.Common.{arith, rules}
 use Rattle.std.proofs.lemmas.List.{take_more_set}
 use Rattle.votes.proofs.Bounded.{place_left}
 use Rattle.votes.proofs.values.Values.push.Goals as goal

@@ -1,6 +1,5 @@
-use Rattle.std.proofs.Common.{◌≡◌, length, sym, refl, ap, ◌∙◌, arith, rules}
+use Rattle.std.proofs.Common.{◌≡◌, length, ap, ◌∙◌, arith, rules}
 use Rattle.std.proofs.lemmas.List.{length-take-le}
-use Rattle.votes.specs.Grounds.{FoundFits}
 use Rattle.votes.proofs.GroundParts.{no_blocker, the_blocker}
 use Rattle.wire.proofs.answer.reader.read_blocker.Goals as goal
 

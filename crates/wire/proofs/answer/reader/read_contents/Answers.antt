@@ -1,4 +1,3 @@
-use Rattle.std.proofs.Common.{rules}
 use Rattle.wire.proofs.AnswerParts.{no_ground, no_head, no_values, short_mark, the_answer, wide_mark}
 use Rattle.wire.proofs.answer.reader.read_contents.Goals as goal
 

@@ -1,4 +1,4 @@
-use Rattle.std.proofs.Common.{◌≤◌, length, arith, rules}
+use Rattle.std.proofs.Common.{rules}
 use Rattle.wire.proofs.AnswerParts.{five_off, head_no_name, head_no_state, head_no_vote, head_short, the_head}
 use Rattle.wire.proofs.answer.reader.read_head.Goals as goal
 

@@ -1,4 +1,4 @@
-use Rattle.std.proofs.Common.{◌≡◌, ◌≤◌, ◌∷◌, length, sym, ap, ◌∙◌, arith, rules}
+use Rattle.std.proofs.Common.{arith, rules}
 use Rattle.octets.specs.Numbers.{Fits64, bytes64}
 use Rattle.octets.proofs.Begins.{uncons}
 use Rattle.envelope.proofs.Sequences.{next, one_more}

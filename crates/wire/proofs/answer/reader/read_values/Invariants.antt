@@ -1,4 +1,3 @@
-use Rattle.std.proofs.Common.{◌-◌, length, take, drop}
 use Rattle.octets.specs.Numbers.{Fits64, bytes64}
 use Rattle.envelope.proofs.Sequences.{Sofar}
 use Rattle.votes.specs.Values.{listed}

@@ -1,4 +1,4 @@
-use Rattle.std.proofs.Common.{◌≡◌, [], ◌∷◌, length, sym, ap, ◌∙◌, arith, length-append}
+use Rattle.std.proofs.Common.{[], ◌∷◌, length, ap, ◌∙◌, arith, length-append}
 use Rattle.votes.specs.Grounds.{blocker_bytes}
 use Rattle.wire.proofs.answer.writer.blocker_size.Goals as goal
 

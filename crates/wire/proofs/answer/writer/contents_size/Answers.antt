@@ -1,4 +1,4 @@
-use Rattle.std.proofs.Common.{◌≡◌, length, sym, ap, ◌∙◌, arith}
+use Rattle.std.proofs.Common.{length, sym, ap, ◌∙◌, arith}
 use Rattle.wire.specs.Answers.{answer_model}
 use Rattle.votes.specs.Grounds.{blocker_bytes}
 use Rattle.wire.proofs.AnswerWrites.{length_contents}

@@ -1,4 +1,4 @@
-use Rattle.std.proofs.Common.{◌≡◌, ◌+◌, length, sym, ap, ◌∙◌, arith}
+use Rattle.std.proofs.Common.{◌≡◌, ◌+◌, length, arith}
 use Rattle.envelope.proofs.Envelopes.{refuses, writes}
 use Rattle.wire.specs.Answers.{answer_contents, answer_format, answer_model}
 use Rattle.votes.specs.Marks.{mark_bytes}

@@ -1,4 +1,4 @@
-use Rattle.std.proofs.Common.{◌≡◌, ◌+◌, [], ◌∷◌, length, sym, refl, ap, ◌∙◌, arith, length-append}
+use Rattle.std.proofs.Common.{[], ◌∷◌, length, sym, refl, ap, ◌∙◌, arith, length-append}
 use Rattle.octets.specs.Buffers.{overlaid}
 use Rattle.octets.proofs.Overlays.{overlaid_more, overlaid_none}
 use Rattle.votes.specs.Grounds.{blocker_bytes}

@@ -1,11 +1,9 @@
-use Rattle.std.proofs.Common.{◌≡◌, ◌+◌, ◌≤◌, length, sym, ap, ◌∙◌, arith}
+use Rattle.std.proofs.Common.{◌≡◌, ◌+◌, ◌≤◌, length, ap, ◌∙◌, arith}
 use Rattle.std.specs.List.{flat_map}
 use Rattle.octets.specs.Buffers.{overlaid}
 use Rattle.octets.specs.Numbers.{bytes64}
 use Rattle.wire.specs.Answers.{answer_model, head_bytes, head_of}
-use Rattle.votes.specs.Grounds.{blocker_bytes, ground_end}
-use Rattle.votes.specs.Marks.{mark_bytes}
-use Rattle.votes.specs.Values.{listed}
+use Rattle.votes.specs.Grounds.{blocker_bytes}
 use Rattle.wire.proofs.AnswerParts.{length_values}
 use Rattle.wire.proofs.AnswerWrites.{pieces_written, same_pieces}
 use Rattle.wire.proofs.answer.writer.write_contents.Goals as goal

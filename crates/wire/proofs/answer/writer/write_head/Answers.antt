@@ -1,10 +1,7 @@
-use Rattle.std.proofs.Common.{◌≡◌, ◌+◌, ◌≤◌, [], ◌∷◌, length, sym, refl, ap, ◌∙◌, arith}
+use Rattle.std.proofs.Common.{◌≡◌, ◌+◌, ◌≤◌, length, sym, ap, ◌∙◌, arith}
 use Rattle.octets.specs.Buffers.{overlaid}
 use Rattle.octets.proofs.Overlays.{overlaid_more}
 use Rattle.wire.specs.Answers.{answer_model}
-use Rattle.votes.specs.Grounds.{ground_byte}
-use Rattle.votes.specs.States.{state_byte}
-use Rattle.votes.specs.Votes.{vote_byte}
 use Rattle.wire.proofs.AnswerWrites.{five_bytes, length_head}
 use Rattle.wire.proofs.answer.writer.write_head.Goals as goal
 

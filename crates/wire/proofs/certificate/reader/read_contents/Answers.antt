@@ -1,4 +1,4 @@
-use Rattle.std.proofs.Common.{◌≡◌, ◌<◌, ◌≤◌, length, sym, refl, ap, ◌∙◌, subst, arith, rules}
+use Rattle.std.proofs.Common.{arith, rules}
 use Rattle.wire.proofs.CertificateParts.{made_of, no_entries, no_name, no_vote, too_many, too_short}
 use Rattle.wire.proofs.OneEntry.{two}
 use Rattle.wire.proofs.certificate.reader.read_contents.Goals as goal

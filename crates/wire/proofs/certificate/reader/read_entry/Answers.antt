@@ -1,4 +1,4 @@
-use Rattle.std.proofs.Common.{◌≡◌, ◌<◌, ◌≤◌, length, sym, ap, ◌∙◌, arith, rules}
+use Rattle.std.proofs.Common.{rules}
 use Rattle.wire.proofs.OneEntry.{no_entry, the_entry, too_wide}
 use Rattle.wire.proofs.certificate.reader.read_entry.Goals as goal
 

@@ -1,4 +1,4 @@
-use Rattle.std.proofs.Common.{◌≡◌, length, get_or, take, ap, ◌∙◌, arith, length-append}
+use Rattle.std.proofs.Common.{length, get_or, take, ap, ◌∙◌, arith, length-append}
 use Rattle.std.specs.List.{flat_map}
 use Rattle.envelope.proofs.SequenceWrites.{joined_next, joined_all}
 use Rattle.votes.specs.Entries.{entry_text}

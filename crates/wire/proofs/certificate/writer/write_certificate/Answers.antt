@@ -1,4 +1,4 @@
-use Rattle.std.proofs.Common.{◌≡◌, ◌+◌, length, sym, ap, ◌∙◌, arith, rules}
+use Rattle.std.proofs.Common.{◌≡◌, ◌+◌, length, ap, ◌∙◌, arith, rules}
 use Rattle.octets.specs.Buffers.{overlaid}
 use Rattle.envelope.proofs.Envelopes.{refuses, writes}
 use Rattle.wire.specs.Certificates.{certificate_contents, certificate_format, certificate_model}

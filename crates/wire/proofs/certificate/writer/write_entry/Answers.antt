@@ -1,4 +1,4 @@
-use Rattle.std.proofs.Common.{◌≡◌, [], ◌∷◌, length, refl, ap, arith}
+use Rattle.std.proofs.Common.{[], ◌∷◌, length, ap, arith}
 use Rattle.octets.proofs.Overlays.{overlaid_more}
 use Rattle.votes.specs.Marks.{mark_bytes}
 use Rattle.wire.proofs.certificate.writer.write_entry.Goals as goal

@@ -1,6 +1,6 @@
 -- What the parts that were read say of the body that the bytes are.
 use Rattle.std.proofs.Common.{◌≡◌, ℕ, false, List, ◌∷◌, ◌++◌, length, sym, ap, ◌∙◌}
-use Rattle.std.specs.List.{flat_map, AllByRecursion as All}
+use Rattle.std.specs.List.{flat_map, AllByRecursion}
 use Rattle.std.proofs.lemmas.Bool.{both_ways}
 use Rattle.octets.specs.Numbers.{Fits64, bytes64}
 use Rattle.bodies.specs.Bodies.{BodyFits, BodyModel, body_contents, body_format}
@@ -12,7 +12,7 @@ use Rattle.bodies.proofs.OneOperation.{same_operation, same_value}
 use Rattle.envelope.proofs.Sequences.{same_all}
 
 -- as many operations, written alike, are the same
-same_operations : (xs ys : List Operation) → All OperationFits xs → All OperationFits ys → length xs ≡ length ys
+same_operations : (xs ys : List Operation) → AllByRecursion OperationFits xs → AllByRecursion OperationFits ys → length xs ≡ length ys
     → flat_map operation_bytes xs ≡ flat_map operation_bytes ys → xs ≡ ys
 same_operations = same_all OperationFits operation_bytes same_operation
 
@@ -33,11 +33,11 @@ module _ (bs : List ℕ) (nonce : ℕ) (fits : Fits64 nonce) (after : List ℕ) 
       let h = same_value nonce b.nonce after _ fits f.nonce_fits (sym e ∙ w) in
       (cc h.1, cc h.1)
 
-  pub no_operations : ((os : List Operation) → length os ≡ count → All OperationFits os → rest ≡ flat_map operation_bytes os → ⊥)
+  pub no_operations : ((os : List Operation) → length os ≡ count → AllByRecursion OperationFits os → rest ≡ flat_map operation_bytes os → ⊥)
       → NoBody bs
   no_operations h b f w = let p = parts b f w in h b.operations (sym p.0) f.fit p.1
 
-  module _ (os : List Operation) (l : length os ≡ count) (fit : All OperationFits os) (r : rest ≡ flat_map operation_bytes os) where
+  module _ (os : List Operation) (l : length os ≡ count) (fit : AllByRecursion OperationFits os) (r : rest ≡ flat_map operation_bytes os) where
     pub whole : bs ≡ body_contents (record { nonce = nonce; operations = os })
     whole = cc
 

@@ -1,6 +1,6 @@
 -- A body: what it says, when it is well formed, and how it is written.
 use Rattle.std.specs.Prelude.{◌≡◌, ℕ, ◌≤◌, true, List, ◌∷◌, ◌++◌, length, Some, None, Ok, Err, Option, Result, ◌≢◌}
-use Rattle.std.specs.List.{flat_map, AllByRecursion as All}
+use Rattle.std.specs.List.{flat_map, AllByRecursion}
 use Rattle.octets.specs.Numbers.{Fits64, bytes64}
 use Rattle.envelope.specs.Formats.{Format}
 use Rattle.envelope.specs.Messages.{body_kind}
@@ -30,7 +30,7 @@ pub record BodyFits (b : BodyModel) : Type 0 where
   pub nonce_fits : Fits64 b.nonce
   pub some : 1 ≤ length b.operations
   pub few : length b.operations ≤ most_operations
-  pub fit : All OperationFits b.operations
+  pub fit : AllByRecursion OperationFits b.operations
   pub apart : writes_apart b.operations ≡ true
 
 -- the nonce, how many operations there are, and the operations
@@ -47,9 +47,9 @@ body_format = record { kind = body_kind; Fits = BodyFits; contents = body_conten
 -- n operations, which bs is the writing of; or bs is the writing of no n operations
 abbrev pub ReadsOperations : ℕ → List ℕ → Option Operations → Type 0
 ReadsOperations n bs (Some o) =
-    (length (listed o) ≡ n) × All OperationFits (listed o) × (bs ≡ flat_map operation_bytes (listed o))
+    (length (listed o) ≡ n) × AllByRecursion OperationFits (listed o) × (bs ≡ flat_map operation_bytes (listed o))
 ReadsOperations n bs None =
-    (os : List Operation) → length os ≡ n → All OperationFits os → bs ≢ flat_map operation_bytes os
+    (os : List Operation) → length os ≡ n → AllByRecursion OperationFits os → bs ≢ flat_map operation_bytes os
 
 -- the body that is made of these parts; where it would not be well formed there is none
 abbrev pub Made : BodyModel → Result Body ReadFault → Type 0

@@ -1,6 +1,6 @@
 // Damaged messages: each well-formed message of the other tests, with each of its bytes changed in turn. What is still
 // read, by the reader of any kind, must be written again as just those bytes.
-use crate::{answers, bodies, certificates};
+use crate::{answers, body_cases, certificates};
 use std::process::Abort;
 use std::test::Fail;
 use wire::answer::reader::read_answer;
@@ -75,8 +75,8 @@ fn damage(rt: &impl Abort, width: usize, message: &mut [u8]) -> Result<(), Fail>
 
 #[test]
 fn damaged_bodies(rt: HostRuntime) -> Result<(), Fail> {
-    for (digits, _) in bodies::GOOD {
-        let mut message = bodies::bytes_of(&rt, digits)?;
+    for (digits, _) in body_cases::GOOD {
+        let mut message = body_cases::bytes_of(&rt, digits)?;
         damage(&rt, 36, message.as_mut_slice())?;
     }
     Ok(())

@@ -6,7 +6,7 @@
 #[cfg(test)]
 mod answers;
 #[cfg(test)]
-mod bodies;
+mod body_cases;
 #[cfg(test)]
 mod certificates;
 #[cfg(test)]

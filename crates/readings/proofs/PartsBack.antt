@@ -1,6 +1,6 @@
 -- What was written is read off again: numbers, names, and things one after another.
 use Rattle.std.proofs.Common.{◌≡◌, ℕ, zero, suc, ◌+◌, ◌-◌, ◌*◌, ◌/◌, ◌%◌, ◌^◌, ◌<◌, ◌≤◌, List, [], ◌∷◌, ◌++◌, length, get_or, drop, Some, Option, unwrap_or, sym, refl, ap, ◌∙◌, ap₂, append_assoc, append-nil, mod-eq_of_lt, arith}
-use Rattle.std.specs.List.{flat_map, AllByRecursion as All}
+use Rattle.std.specs.List.{flat_map, AllByRecursion}
 use Rattle.std.proofs.lemmas.List.{drop_at, drop-drop, get_or-append_right, take_at}
 use Rattle.octets.specs.Numbers.{big_endian}
 use Rattle.octets.proofs.OneWriting.{low_bytes}
@@ -40,7 +40,7 @@ value_found o x d is = ap (λ p. unwrap_or p d) is
 module _ {X : Type 0} (Fits : X → Type 0) (writing : X → List ℕ) (first : List ℕ → X)
     (back : (x : X) (t : List ℕ) → Fits x → first (writing x ++ t) ≡ x) where
   -- things one after another, from their writings
-  pub in_order_front : (xs : List X) (t : List ℕ) → All Fits xs
+  pub in_order_front : (xs : List X) (t : List ℕ) → AllByRecursion Fits xs
       → in_order first writing (length xs) (flat_map writing xs ++ t) ≡ xs
   in_order_front [] t fit = refl
   in_order_front (x ∷ xs) t fit =
@@ -52,6 +52,6 @@ module _ {X : Type 0} (Fits : X → Type 0) (writing : X → List ℕ) (first : 
       ap (drop _) split ∙ drop_at (writing x) (flat_map writing xs ++ t) _ size in
       ap₂ (λ y l. y ∷ l) here (ap (in_order first writing (length xs)) after ∙ in_order_front xs t fit.1)
 
-  pub in_order_back : (xs : List X) → All Fits xs → in_order first writing (length xs) (flat_map writing xs) ≡ xs
+  pub in_order_back : (xs : List X) → AllByRecursion Fits xs → in_order first writing (length xs) (flat_map writing xs) ≡ xs
   in_order_back xs fit =
       ap (in_order first writing (length xs)) (sym (append-nil (flat_map writing xs))) ∙ in_order_front xs [] fit

@@ -8,6 +8,7 @@ use Rattle.votes.specs.Marks.{largest_mark}
 use Rattle.votes.specs.States.{state_of}
 use Rattle.votes.specs.Values.{most_values}
 use Rattle.votes.specs.declared.ground.Blocker.{Blocker}
+use Rattle.votes.specs.declared.ground.Ground.{Ground}
 use Rattle.votes.specs.declared.ground.Ground.TheVariants as ground
 use Rattle.votes.specs.declared.state.State.TheVariants as state
 use Rattle.wire.specs.Answers.{AnswerModel, answer_format}
@@ -20,13 +21,14 @@ abbrev pub answer_candidate : ℕ → List ℕ → AnswerModel
 answer_candidate m bs =
     let tail = drop m (drop 41 bs) in
     let count = slice_index_or tail 0 0 in
+    let ground : Ground = unwrap_or (ground_of (slice_index bs 40) (drop (1 + 8 * count) tail)) ground.Pending in
     record {
       name = name_at 4 bs;
       group = slice_index bs 36;
       replica = slice_index bs 37;
       vote = vote_at 38 bs;
       state = unwrap_or (state_of (slice_index bs 39)) state.Pending;
-      ground = unwrap_or (ground_of (slice_index bs 40) (drop (1 + 8 * count) tail)) ground.Pending;
+      ground = ground;
       mark = bytes_at 41 m bs;
       reads = in_order (number_at 0 8) bytes64 count (drop 1 tail);
     }

@@ -109,7 +109,7 @@ module _ (C : Config) where
   answered m x None new = cond (nat_lt (length m.book) C.names) new (m, Err BookFull)
 
   -- a new name is declined
-  abbrev pub declined : ReplicaModel → Name → Ground → ReplicaModel × Outcome
+  abbrev pub declined : ReplicaModel → Name → (ground : Ground) → ReplicaModel × Outcome
   declined m x g = (
     with_entry m x Declined,
     Ok (Some (record { name = x; vote = Abort; state = Declined; ground = g; reads = [] })),

@@ -3,6 +3,7 @@ use Rattle.std.specs.Prelude.{map, take, Ok, Err, vec_items, vec_len, Option, Re
 use Rattle.std.specs.Option.{option_map}
 use Rattle.votes.specs.Values.{listed}
 use Rattle.votes.specs.declared.fault.DeliveryFault.{DeliveryFault}
+use Rattle.votes.specs.declared.ground.Ground.{Ground}
 use Rattle.replica.specs.Models.{Config, ReplicaModel, ReplyModel}
 use Rattle.replica.specs.Steps.{Outcome}
 use Rattle.replica.specs.Transactions.{transaction}
@@ -33,11 +34,12 @@ config r =
 -- what a reply says
 abbrev pub reply_model : Reply → ReplyModel
 reply_model r =
+    let ground : Ground = r.ground in
     record {
       name = r.name;
       vote = r.vote;
       state = r.state;
-      ground = r.ground;
+      ground = ground;
       reads = listed r.reads;
     }
 

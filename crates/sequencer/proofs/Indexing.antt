@@ -1,6 +1,6 @@
 -- The index of a group among the indexes of a tape, and another in its place.
 use Rattle.std.proofs.Common.{◌≡◌, ℕ, zero, suc, ◌+◌, ◌<◌, ◌≤◌, true, List, [], ◌∷◌, map, length, get_or, set, sym, refl, ap, ◌∙◌, ap₂, ⊎_elim, arith, length-set}
-use Rattle.std.specs.List.{range_with_len, AllByRecursion as All}
+use Rattle.std.specs.List.{range_with_len, AllByRecursion}
 use Rattle.std.proofs.lemmas.List.FromFn.{fill_by_all, get_or-map-range_with_len, length-map-range_with_len}
 use Rattle.std.proofs.lemmas.List.{get_or-map, get_or-set_other, get_or-set_same, map-set}
 use Rattle.std.proofs.lemmas.Bool.{and_from, and_parts, cases_eq, le-leb, leb-true}
@@ -52,11 +52,11 @@ spacious_set n (x ∷ is) (suc g) i h l = and_from _ _ (and_parts _ _ h).0 (spac
 abbrev pub EmptyIndex : ℕ → Index → Type 0
 EmptyIndex n i = (i.starts.items ≡ []) × (n ≤ i.starts.cap)
 
-pub empty_spacious : (n : ℕ) (is : List Index) → All (EmptyIndex n) is → all_spacious n is ≡ true
+pub empty_spacious : (n : ℕ) (is : List Index) → AllByRecursion (EmptyIndex n) is → all_spacious n is ≡ true
 empty_spacious n [] es = refl
 empty_spacious n (i ∷ is) es = and_from _ _ (le-leb n i.starts.cap es.0.1) (empty_spacious n is es.1)
 
-pub empty_starts : (n : ℕ) (is : List Index) → All (EmptyIndex n) is → (from : ℕ)
+pub empty_starts : (n : ℕ) (is : List Index) → AllByRecursion (EmptyIndex n) is → (from : ℕ)
     → all_starts is ≡ map (λ _. []) (range_with_len from (length is))
 empty_starts n [] es from = refl
 empty_starts n (i ∷ is) es from = ap₂ (λ x xs. x ∷ xs) es.0.0 (empty_starts n is es.1 (from + 1))

@@ -1,7 +1,7 @@
 -- A track among the tracks, and another in its place.
 use Rattle.std.proofs.Common.{◌≡◌, ℕ, zero, suc, ◌<◌, true, cond, ◌&&◌, eqb, ltb, List, [], ◌∷◌, ◌++◌, length, get_or, set, Some, None, Option, sym, refl, ap, ◌∙◌, ap₂, ⊎_elim, arith}
 use Rattle.std.specs.Option.{option_map}
-use Rattle.std.specs.List.{AllByRecursion as All, slice_get}
+use Rattle.std.specs.List.{AllByRecursion, slice_get}
 use Rattle.std.proofs.lemmas.List.{append-nil}
 use Rattle.std.proofs.lemmas.Option.{slice_get_past, slice_get_read}
 use Rattle.std.proofs.lemmas.Bool.{cases_eq, cases_lt, eq-eqb, false≢true, le-ltb, lt-ltb, ne_eqb}
@@ -26,18 +26,18 @@ fits_found ts g n t e is = slice_get_read ts (length ts) g t refl (fits_within t
 abbrev pub EmptyTrack : ℕ → Track → Type 0
 EmptyTrack size t = (t.bytes.items ≡ []) × (t.size ≡ size)
 
-pub empty_lists : (size : ℕ) (ts : List Track) → All (EmptyTrack size) ts → (g : ℕ) → list_on (slice_get ts g) ≡ []
+pub empty_lists : (size : ℕ) (ts : List Track) → AllByRecursion (EmptyTrack size) ts → (g : ℕ) → list_on (slice_get ts g) ≡ []
 empty_lists size [] es g = refl
 empty_lists size (t ∷ ts) es zero = ap (λ bs. messages_of 0 bs 0) es.0.0 ∙ messages_none 0 0
 empty_lists size (t ∷ ts) es (suc g) = empty_lists size ts es.1 g
 
-empty_fits : (size : ℕ) (ts : List Track) → All (EmptyTrack size) ts → (g n : ℕ) → g < length ts
+empty_fits : (size : ℕ) (ts : List Track) → AllByRecursion (EmptyTrack size) ts → (g n : ℕ) → g < length ts
     → fits_on (slice_get ts g) n ≡ has_space 0 0 size n
 empty_fits size [] es g n l = absurd (omega arith)
 empty_fits size (t ∷ ts) es zero n l = ap₂ (λ used size. has_space 0 used size n) (ap length es.0.0) es.0.1
 empty_fits size (t ∷ ts) es (suc g) n l = empty_fits size ts es.1 g n (omega arith)
 
-pub empty_space : (size : ℕ) (ts : List Track) → All (EmptyTrack size) ts → (groups : ℕ) → length ts ≡ groups
+pub empty_space : (size : ℕ) (ts : List Track) → AllByRecursion (EmptyTrack size) ts → (groups : ℕ) → length ts ≡ groups
     → (g n : ℕ) → fits_on (slice_get ts g) n ≡ (ltb g groups && has_space 0 0 size n)
 empty_space size ts es groups many g n =
     ⊎_elim

@@ -1,7 +1,7 @@
 -- The message of a record, by where the record starts.
 use Rattle.std.proofs.Common.{◌≡◌, ℕ, zero, suc, ◌+◌, ◌-◌, ◌*◌, List, [], ◌∷◌, map, length, get_or, take, drop, Some, sym, refl, ap, ◌∙◌, subst, ap₂, arith}
 use Rattle.std.specs.Option.{option_map}
-use Rattle.std.specs.List.{AllByRecursion as All, slice_get}
+use Rattle.std.specs.List.{AllByRecursion, slice_get}
 use Rattle.std.proofs.lemmas.List.{drop-drop, get_or-drop, length-drop, length-take-le}
 use Rattle.sequencer.specs.Places.{Starts, message_at}
 use Rattle.sequencer.specs.Records.{said_length}
@@ -11,7 +11,7 @@ nth_map f [] i = refl
 nth_map f (x ∷ xs) zero = refl
 nth_map f (x ∷ xs) (suc i) = nth_map f xs i
 
-pub all_nth : {X : Type 0} (P : X → Type 0) (xs : List X) (i : ℕ) (x : X) → All P xs → slice_get xs i ≡ Some x → P x
+pub all_nth : {X : Type 0} (P : X → Type 0) (xs : List X) (i : ℕ) (x : X) → AllByRecursion P xs → slice_get xs i ≡ Some x → P x
 all_nth P [] i x h e = absurd (let z : ◌≡◌ {A = ℕ} 0 1 = cc in omega arith)
 all_nth P (y ∷ xs) zero x h e = subst P (cc) h.0
 all_nth P (y ∷ xs) (suc i) x h e = all_nth P xs i x h.1 e

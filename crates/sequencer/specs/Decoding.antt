@@ -1,7 +1,7 @@
 -- What is stored in bytes that are records: the entries that were written.
 use Rattle.std.specs.Prelude.{◌≡◌, ℕ, zero, suc, ◌+◌, ◌*◌, ◌/◌, ◌%◌, ◌≤◌, true, List, [], ◌∷◌, ◌++◌, length, take, drop, nat_le, slice_index, slice_index_or, refl}
 use Rattle.std.proofs.Common.{sym, ap, ap₂, ◌∙◌, arith, length-append, length-drop}
-use Rattle.std.specs.List.{flat_map, AllByRecursion as All}
+use Rattle.std.specs.List.{flat_map, AllByRecursion}
 use Rattle.std.proofs.ByRecursion.{All-push}
 use Rattle.std.proofs.lemmas.List.{take_at, drop_at, flat_map_more, length-take-le}
 use Rattle.std.proofs.lemmas.Bool.{and_from, and_parts, cond_both, cond-true, le-leb, leb-true}
@@ -86,18 +86,18 @@ module _ (lead : ℕ) (low : lead ≤ 1) where
       placed_first zero = refl
       placed_first (suc k) = refl
 
-  proper_up_to : (n : ℕ) (bs : List ℕ) → All (Proper lead) (up_to lead n bs)
+  proper_up_to : (n : ℕ) (bs : List ℕ) → AllByRecursion (Proper lead) (up_to lead n bs)
   proper_up_to zero bs = tt
   proper_up_to (suc n) bs =
-      cond_both (has_space lead 0 (length bs) (said_length lead bs)) _ _ (All (Proper lead))
+      cond_both (has_space lead 0 (length bs) (said_length lead bs)) _ _ (AllByRecursion (Proper lead))
       (λ t. (proper_first bs t, proper_up_to n (drop (record_size lead (said_length lead bs)) bs))) (λ _. tt)
 
-  pub proper_entries : (bs : List ℕ) → All (Proper lead) (entries lead bs)
+  pub proper_entries : (bs : List ℕ) → AllByRecursion (Proper lead) (entries lead bs)
   unfolding entries
   proper_entries bs = proper_up_to (length bs) bs
 
   -- the records of entries store these entries
-  decoded : (es : List Entry) → All (Proper lead) es → (n : ℕ) → length es ≤ n
+  decoded : (es : List Entry) → AllByRecursion (Proper lead) es → (n : ℕ) → length es ≤ n
       → up_to lead n (flat_map (record_of lead) es) ≡ es
   decoded [] ps zero l = refl
   decoded [] ps (suc n) l = refl
@@ -109,7 +109,7 @@ module _ (lead : ℕ) (low : lead ≤ 1) where
       (ap (up_to lead n) (behind_of e ps.0 rest) ∙ decoded es ps.1 n (omega arith))
 
   -- a record has at least the bytes around a message and one more
-  pub many : (es : List Entry) → All (Proper lead) es
+  pub many : (es : List Entry) → AllByRecursion (Proper lead) es
       → record_size lead 1 * length es ≤ length (flat_map (record_of lead) es)
   many [] ps = omega arith
   many (e ∷ es) ps =
@@ -117,7 +117,7 @@ module _ (lead : ℕ) (low : lead ≤ 1) where
       let long = length-append (record_of lead e) (flat_map (record_of lead) es) in
       omega (arith, ps.0.sized.0, length_record lead low e)
 
-  entries_joined : (es : List Entry) → All (Proper lead) es → entries lead (flat_map (record_of lead) es) ≡ es
+  entries_joined : (es : List Entry) → AllByRecursion (Proper lead) es → entries lead (flat_map (record_of lead) es) ≡ es
   unfolding entries
   entries_joined es ps = decoded es ps _ (omega (arith, many es ps))
 

@@ -1,6 +1,6 @@
 -- What every sequencer keeps to: its lists of messages and what fits.
 use Rattle.std.specs.Prelude.{◌≡◌, ℕ, ◌-◌, ◌^◌, ◌≤◌, Bool, true, false, ◌&&◌, List, [], ◌∷◌, length, Some, None, Option, nat_lt}
-use Rattle.std.specs.List.{AllByRecursion as All}
+use Rattle.std.specs.List.{AllByRecursion}
 use Rattle.octets.specs.Buffers.{overlaid}
 use Rattle.envelope.specs.Messages.{largest_message}
 
@@ -27,7 +27,7 @@ pub record Bounds {S : Type 0} (lists : S → ℕ → List (List ℕ)) (fits : S
   -- no length of 0 or over the largest message fits
   pub sized : (s : S) (g n : ℕ) → fits s g n ≡ true → Sized n
   -- nor is such a message in a list
-  pub stored : (s : S) (g : ℕ) → All (λ m. Sized (length m)) (lists s g)
+  pub stored : (s : S) (g : ℕ) → AllByRecursion (λ m. Sized (length m)) (lists s g)
   -- no list has more than the most messages
   pub counted : (s : S) (g : ℕ) → length (lists s g) ≤ most_messages
   -- and nothing fits a list with so many

@@ -1,7 +1,7 @@
 -- Where the records of a group start, and the messages that stand there.
 use Rattle.std.specs.Prelude.{◌≡◌, ℕ, ◌+◌, ◌*◌, ◌≤◌, Bool, true, false, cond, List, [], ◌∷◌, ◌++◌, map, length, drop, ◌==◌, ◌≢◌, nat_le, refl}
 use Rattle.std.proofs.Common.{sym, ap, ap₂, ◌∙◌, subst, append_assoc, mul-le-mul_left, arith, length-append}
-use Rattle.std.specs.List.{flat_map, AllByRecursion as All}
+use Rattle.std.specs.List.{flat_map, AllByRecursion}
 use Rattle.std.proofs.ByRecursion.{All-weaker}
 use Rattle.std.proofs.lemmas.List.{append-nil, drop_at, length-map}
 use Rattle.std.proofs.lemmas.Bool.{and_parts, eq-eqb, leb-true, ne_eqb}
@@ -35,10 +35,10 @@ fewer g (e ∷ es) = by_test (e.group == g) (fewer g es) where
   by_test false ih = omega arith
 
 -- what holds of each entry's message holds of each message of a group
-all_of_group : (P : List ℕ → Type 0) (g : ℕ) (es : List Entry) → All (λ e. P e.message) es → All P (of_group g es)
+all_of_group : (P : List ℕ → Type 0) (g : ℕ) (es : List Entry) → AllByRecursion (λ e. P e.message) es → AllByRecursion P (of_group g es)
 all_of_group P g [] ps = tt
 all_of_group P g (e ∷ es) ps = by_test (e.group == g) (all_of_group P g es ps.1) where
-  by_test : (b : Bool) → All P (of_group g es) → All P (cond b (e.message ∷ of_group g es) (of_group g es))
+  by_test : (b : Bool) → AllByRecursion P (of_group g es) → AllByRecursion P (cond b (e.message ∷ of_group g es) (of_group g es))
   by_test true ih = (ps.0, ih)
   by_test false ih = ih
 
@@ -56,7 +56,7 @@ module _ (lead : ℕ) (low : lead ≤ 1) where
 
   -- the entries of a group start where the starts say, and their messages stand there
   record Found (bs : List ℕ) (ms : List (List ℕ)) (ps : List ℕ) : Type 0 where
-    start : All (Starts lead bs) ps
+    start : AllByRecursion (Starts lead bs) ps
     read : ms ≡ map (message_at lead bs) ps
 
   found_if : (b : Bool) (bs m : List ℕ) (ms : List (List ℕ)) (p : ℕ) (ps : List ℕ) → Starts lead bs p
@@ -65,7 +65,7 @@ module _ (lead : ℕ) (low : lead ≤ 1) where
   found_if false bs m ms p ps s r h = h
 
   found_from : (g at : ℕ) (bs front : List ℕ) (es : List Entry) → bs ≡ front ++ flat_map (record_of lead) es
-      → length front ≡ at → All (Proper lead) es → Found bs (of_group g es) (starts_from lead g at es)
+      → length front ≡ at → AllByRecursion (Proper lead) es → Found bs (of_group g es) (starts_from lead g at es)
   found_from g at bs front [] is l ps = record { start = tt; read = refl }
   found_from g at bs front (e ∷ es) is l ps =
       let rest = flat_map (record_of lead) es in
@@ -91,7 +91,7 @@ module _ (lead : ℕ) (low : lead ≤ 1) where
     found : Found bs (messages_of lead bs g) (starts_of lead bs g)
     found = found_from g 0 bs [] (entries lead bs) (sym whole) refl (proper_entries lead low bs)
 
-    pub starts_in_place : All (Starts lead bs) (starts_of lead bs g)
+    pub starts_in_place : AllByRecursion (Starts lead bs) (starts_of lead bs g)
     starts_in_place = found.start
 
     pub messages_at : messages_of lead bs g ≡ map (message_at lead bs) (starts_of lead bs g)
@@ -135,15 +135,15 @@ module _ (lead : ℕ) (low : lead ≤ 1) where
   -- a slice of these bytes, and an index that has the starts of a group
   module _ (bs slice starts : List ℕ) (g : ℕ) (is : slice ≡ bs) (whole : OnlyRecords lead bs)
       (indexed : starts ≡ starts_of lead bs g) where
-    pub indexed_starts : All (Starts lead slice) starts
+    pub indexed_starts : AllByRecursion (Starts lead slice) starts
     indexed_starts =
-        subst (λ l. All (Starts lead l) starts) (sym is)
-        (subst (All (Starts lead bs)) (sym indexed) (starts_in_place bs whole g))
+        subst (λ l. AllByRecursion (Starts lead l) starts) (sym is)
+        (subst (AllByRecursion (Starts lead bs)) (sym indexed) (starts_in_place bs whole g))
 
     pub indexed_messages : map (message_at lead slice) starts ≡ messages_of lead bs g
     indexed_messages = ap₂ (λ l ps. map (message_at lead l) ps) is indexed ∙ sym (messages_at bs whole g)
 
   -- no bytes store a message that may not be posted
-  pub sized_messages : (bs : List ℕ) (g : ℕ) → All (λ m. Sized (length m)) (messages_of lead bs g)
+  pub sized_messages : (bs : List ℕ) (g : ℕ) → AllByRecursion (λ m. Sized (length m)) (messages_of lead bs g)
   sized_messages bs g =
       all_of_group _ g (entries lead bs) (All-weaker _ _ (λ e p. p.sized) _ (proper_entries lead low bs))

@@ -1,7 +1,7 @@
 -- A tape keeps the bounds of every sequencer, and one more message is the last of its list.
 use Rattle.std.specs.Prelude.{◌≡◌, ℕ, ◌+◌, ◌<◌, ◌≤◌, cond, List, [], ◌++◌, length, ◌==◌, nat_lt}
 use Rattle.std.proofs.Common.{sym, ap, ap₂, ◌∙◌, ⊎_elim, arith}
-use Rattle.std.specs.List.{AllByRecursion as All}
+use Rattle.std.specs.List.{AllByRecursion}
 use Rattle.std.proofs.lemmas.Bool.{and_parts, cases_lt, cond_both, le-ltb, lt-ltb, ne_eqb}
 use Rattle.sequencer.specs.Lists.{Bounds, Sized, most_messages}
 use Rattle.sequencer.specs.Records.{messages_of}
@@ -31,7 +31,7 @@ pub tape_bounds : Bounds tape_lists tape_fits
 tape_bounds = record {
   sized = λ t g n e. (spacious 1 _ _ _ (and_parts (nat_lt g (groups_of t)) _ e).1).sized;
   stored = λ t g.
-      cond_both (nat_lt g (groups_of t)) (messages_of 1 t.bytes.items g) [] (All (λ m. Sized (length m)))
+      cond_both (nat_lt g (groups_of t)) (messages_of 1 t.bytes.items g) [] (AllByRecursion (λ m. Sized (length m)))
       (λ _. sized_messages 1 (omega arith) t.bytes.items g) (λ _. tt);
   counted = λ t g. omega (arith, counted t g);
   full = λ t g n e. absurd (omega (arith, e, counted t g));

@@ -1,7 +1,7 @@
 -- Tracks keep the bounds of every sequencer.
 use Rattle.std.specs.Prelude.{◌≡◌, ℕ, ◌+◌, ◌≤◌, true, length, Some, None, Option}
 use Rattle.std.proofs.Common.{arith}
-use Rattle.std.specs.List.{AllByRecursion as All}
+use Rattle.std.specs.List.{AllByRecursion}
 use Rattle.std.proofs.lemmas.Bool.{false≢true}
 use Rattle.sequencer.specs.Lists.{Bounds, Sized, most_messages}
 use Rattle.sequencer.specs.Tracks.{fits_on, list_on, track_fits, track_lists, track_of}
@@ -13,7 +13,7 @@ sized : (t : Option Track) (n : ℕ) → fits_on t n ≡ true → Sized n
 sized None n e = absurd (false≢true e)
 sized (Some t) n e = (spacious 0 _ _ _ e).sized
 
-stored : (t : Option Track) → All (λ m. Sized (length m)) (list_on t)
+stored : (t : Option Track) → AllByRecursion (λ m. Sized (length m)) (list_on t)
 stored None = tt
 stored (Some t) = sized_messages 0 (omega arith) t.bytes.items 0
 

@@ -1,7 +1,7 @@
 // Records of messages in a buffer: what has space, one more at the end, and a message copied out.
 ghost use Rattle.std.specs.Prelude.{◌≡◌, ◌+◌, ◌≤◌, ◌++◌, map, length, vec_len, vec_capacity};
 ghost use Rattle.std.specs.Option.{option_map};
-ghost use Rattle.std.specs.List.{AllByRecursion as All, slice_get};
+ghost use Rattle.std.specs.List.{AllByRecursion, slice_get};
 ghost use Rattle.octets.specs.Buffers.{overlaid};
 ghost use Rattle.octets.specs.Numbers.{big_endian};
 ghost use Rattle.envelope.specs.Messages.{largest_message};
@@ -64,7 +64,7 @@ pub fn copy_indexed(
     number: u64,
     out: &mut [u8; LARGEST_MESSAGE],
 ) -> Option<usize>
-    requires { All (Starts lead bytes.now) index.now.starts.items }
+    requires { AllByRecursion (Starts lead bytes.now) index.now.starts.items }
     ensures answer { result ≡ option_map length (slice_get (map (message_at lead bytes.now) index.now.starts.items) number) }
     ensures copied { out.new ≡ copied_to out.old (slice_get (map (message_at lead bytes.now) index.now.starts.items) number) }
 {

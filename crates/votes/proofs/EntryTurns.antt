@@ -1,6 +1,6 @@
 -- The turns of the loops over the entries of a certificate.
 use Rattle.std.proofs.Common.{◌≡◌, ℕ, ◌+◌, ◌<◌, ◌≤◌, true, false, ◌&&◌, eqb, leb, List, [], ◌∷◌, map, length, get_or, drop, sym, refl, ap, ◌∙◌}
-use Rattle.std.specs.List.{AllByRecursion as All}
+use Rattle.std.specs.List.{AllByRecursion}
 use Rattle.std.proofs.lemmas.List.{at_drop_all, at_drop_more}
 use Rattle.std.proofs.lemmas.Bool.{and_from, eq-eqb, le-leb, lt-leb, ne_eqb}
 use Rattle.votes.specs.Entries.{EntryFits, EntryModel, all_wide, rank, rises, shown}
@@ -45,6 +45,6 @@ module _ (least : ℕ) (es : List Entry) (i : ℕ) (inv : rises least (map shown
     rises_on above = sym (step ∙ ap (λ t. t && rises (next + 1) (map shown (drop (i + 1) es))) (le-leb _ _ above))
 
 -- marks of m bytes are all wide
-pub wide_from : (m : ℕ) (es : List EntryModel) → All (EntryFits m) es → all_wide m es ≡ true
+pub wide_from : (m : ℕ) (es : List EntryModel) → AllByRecursion (EntryFits m) es → all_wide m es ≡ true
 wide_from m [] fit = refl
 wide_from m (e ∷ es) fit = and_from _ _ (eq-eqb _ _ fit.0.mark_fits) (wide_from m es fit.1)

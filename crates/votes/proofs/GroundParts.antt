@@ -1,6 +1,6 @@
 -- A ground is told by its byte and by what the answer ends with.
 use Rattle.std.proofs.Common.{◌≡◌, ℕ, ◌+◌, ◌<◌, Bool, true, false, cond, eqb, List, [], ◌∷◌, ◌++◌, length, get_or, take, drop, Some, None, sym, refl, ap, ◌∙◌, subst, ap₂, arith, length-append, take-append-drop}
-use Rattle.std.specs.List.{AllByRecursion as All}
+use Rattle.std.specs.List.{AllByRecursion}
 use Rattle.std.proofs.lemmas.List.{get_or_at, get_or-drop, length-drop, take_at}
 use Rattle.std.proofs.lemmas.Bool.{cond-false, cond-true, eq-eqb, eqb-true, ne_eqb}
 use Rattle.votes.specs.Bytes.{with_byte}
@@ -38,7 +38,7 @@ ground_back Proposed f = refl
 ground_back Known f = refl
 
 -- what holds of each of these things holds of the one that was found
-found_among : {X : Type 0} (byte : X → ℕ) (P : X → Type 0) (xs : List X) (b : ℕ) (x : X) → All P xs
+found_among : {X : Type 0} (byte : X → ℕ) (P : X → Type 0) (xs : List X) (b : ℕ) (x : X) → AllByRecursion P xs
     → with_byte byte xs b ≡ Some x → P x
 found_among byte P [] b x each e = absurd (let y : ◌≡◌ {A = ℕ} 0 1 = cc in omega arith)
 found_among byte P (y ∷ ys) b x each e = at (eqb b (byte y)) refl (found_among byte P ys b x each.1) where

@@ -1,6 +1,6 @@
 -- What the parts that were read say of the certificate that the bytes are.
 use Rattle.std.proofs.Common.{◌≡◌, ℕ, ◌<◌, ◌≤◌, List, ◌∷◌, ◌++◌, length, Some, None, Option, sym, ap, ◌∙◌, subst, arith}
-use Rattle.std.specs.List.{flat_map, AllByRecursion as All}
+use Rattle.std.specs.List.{flat_map, AllByRecursion}
 use Rattle.envelope.specs.Formats.{OneWriting, ReadsContents}
 use Rattle.envelope.specs.declared.name.Name.{Name}
 use Rattle.envelope.proofs.Envelopes.{same_contents}
@@ -47,13 +47,13 @@ module _ (m : ℕ) (bs : List ℕ) (x : Name) (fits : NameFits x) (after : List 
     pub too_many : most_entries < n → NoCertificate m bs
     too_many many c f w = omega (arith, (parts c f w).1, f.few)
 
-    pub no_entries : ((es : List EntryModel) → length es ≡ n → All (EntryFits m) es → rest ≡ flat_map entry_bytes es → ⊥)
+    pub no_entries : ((es : List EntryModel) → length es ≡ n → AllByRecursion (EntryFits m) es → rest ≡ flat_map entry_bytes es → ⊥)
         → NoCertificate m bs
     no_entries h c f w = let p = parts c f w in h c.entries (sym p.1) f.fit p.2
 
     -- the vote and the entries that were read
     module _ (vote : Vote) (is : Some vote ≡ vote_of v) (es : List EntryModel) (l : length es ≡ n)
-        (fit : All (EntryFits m) es) (r : rest ≡ flat_map entry_bytes es) where
+        (fit : AllByRecursion (EntryFits m) es) (r : rest ≡ flat_map entry_bytes es) where
       whole : bs ≡ certificate_contents (record { name = x; vote = vote; entries = es })
       whole = cc (e, e', vote_is v vote (sym is))
 

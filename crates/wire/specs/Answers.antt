@@ -1,7 +1,7 @@
 -- An answer: what it says, when it is well formed, and how it is written.
 use Rattle.std.specs.Prelude.{◌≡◌, ℕ, ◌+◌, ◌*◌, ◌<◌, ◌≤◌, List, [], ◌∷◌, ◌++◌, length, Some, None, Option, ◌≢◌}
 use Rattle.std.specs.Borrow.{Bor}
-use Rattle.std.specs.List.{flat_map, AllByRecursion as All}
+use Rattle.std.specs.List.{flat_map, AllByRecursion}
 use Rattle.octets.specs.Numbers.{Fits64, bytes64}
 use Rattle.envelope.specs.Formats.{Format, written}
 use Rattle.envelope.specs.Messages.{answer_kind}
@@ -53,7 +53,7 @@ pub record AnswerFits (m : ℕ) (a : AnswerModel) : Type 0 where
   pub mark_fits : length a.mark ≡ m
   pub small : m ≤ largest_mark
   pub few : length a.reads ≤ most_values
-  pub fit : All Fits64 a.reads
+  pub fit : AllByRecursion Fits64 a.reads
 
 -- the fields before the mark, the ground as its byte
 abbrev pub head_bytes : Head → List ℕ
@@ -100,7 +100,7 @@ answer_text a = written (answer_format (length (mark_bytes a.mark))) (answer_mod
 
 -- at most 16 values
 abbrev pub ValuesFit : List ℕ → Type 0
-ValuesFit vs = (length vs ≤ most_values) × All Fits64 vs
+ValuesFit vs = (length vs ≤ most_values) × AllByRecursion Fits64 vs
 
 -- bs begins with the values that were read, and the rest follows; or it begins with no values
 abbrev pub FirstValues : List ℕ → Option (Values × Bor (List ℕ)) → Type 0

@@ -1,6 +1,6 @@
 -- A certificate: what it says, when it is well formed, and how it is written.
 use Rattle.std.specs.Prelude.{◌≡◌, ℕ, ◌≤◌, true, List, ◌∷◌, ◌++◌, length, Some, None, Option, ◌≢◌}
-use Rattle.std.specs.List.{flat_map, AllByRecursion as All}
+use Rattle.std.specs.List.{flat_map, AllByRecursion}
 use Rattle.envelope.specs.Formats.{Format, written}
 use Rattle.envelope.specs.Messages.{certificate_kind}
 use Rattle.envelope.specs.declared.name.Name.{Name}
@@ -28,7 +28,7 @@ pub record CertificateFits (m : ℕ) (c : CertificateModel) : Type 0 where
   pub name_fits : NameFits c.name
   pub some : 1 ≤ length c.entries
   pub few : length c.entries ≤ most_entries
-  pub fit : All (EntryFits m) c.entries
+  pub fit : AllByRecursion (EntryFits m) c.entries
   pub rise : rises 0 c.entries ≡ true
 
 -- the name, the vote, how many entries there are, and the entries
@@ -51,9 +51,9 @@ certificate_text c = written (certificate_format c.width) (certificate_model c)
 -- n entries, which bs is the writing of; or bs is the writing of no n entries
 abbrev pub ReadsEntries : ℕ → ℕ → List ℕ → Option Entries → Type 0
 ReadsEntries m n bs (Some es) =
-    (length (entry_list es) ≡ n) × All (EntryFits m) (entry_list es) × (bs ≡ flat_map entry_bytes (entry_list es))
+    (length (entry_list es) ≡ n) × AllByRecursion (EntryFits m) (entry_list es) × (bs ≡ flat_map entry_bytes (entry_list es))
 ReadsEntries m n bs None =
-    (es : List EntryModel) → length es ≡ n → All (EntryFits m) es → bs ≢ flat_map entry_bytes es
+    (es : List EntryModel) → length es ≡ n → AllByRecursion (EntryFits m) es → bs ≢ flat_map entry_bytes es
 
 -- the certificate that is made of these parts; where it would not be well formed there is none
 abbrev pub MadeCertificate : ℕ → CertificateModel → Option Certificate → Type 0

@@ -1,6 +1,6 @@
 // Writes a body.
 ghost use Rattle.std.specs.Prelude.{◌≡◌, ◌+◌, ◌≤◌, length};
-ghost use Rattle.std.specs.List.{flat_map, AllByRecursion as All};
+ghost use Rattle.std.specs.List.{flat_map, AllByRecursion};
 ghost use Rattle.octets.specs.Buffers.{overlaid};
 ghost use Rattle.bodies.specs.Bodies.{BodyFits, body_format, body_model, contents_of, most_operations};
 ghost use Rattle.envelope.specs.Formats.{write_after, write_answer, written};
@@ -17,7 +17,7 @@ fn operations_size(operations: &[Operation]) -> usize
     requires { length operations.now ≤ most_operations }
     ensures size { result ≡ length (flat_map operation_bytes operations.now) }
     ensures few { result ≤ 208 }
-    ensures fit { All OperationFits operations.now }
+    ensures fit { AllByRecursion OperationFits operations.now }
 {
     let mut size = 0;
     for operation in operations {

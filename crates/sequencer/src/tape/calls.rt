@@ -1,6 +1,6 @@
 // The calls of a tape.
 ghost use Rattle.std.specs.Prelude.{◌≡◌, ◌≤◌, [], length, IfOk, vec_capacity};
-ghost use Rattle.std.specs.List.{AllByRecursion as All};
+ghost use Rattle.std.specs.List.{AllByRecursion};
 ghost use Rattle.sequencer.specs.Lists.{Fresh};
 ghost use Rattle.sequencer.specs.Records.{has_space};
 ghost use Rattle.sequencer.specs.Tapes.{TapeLeft, tape_fits, tape_lists};
@@ -15,7 +15,7 @@ use std::alloc::{AllocError, Global};
 
 // So many empty indexes, with space for `limit` starts each.
 fn empty_indexes(heap: Global, groups: u8, limit: usize) -> Result<Vec<Index>, AllocError>
-    ensures { IfOk result (λ v. (length v.items ≡ groups) × All (λ i. (i.starts.items ≡ []) × (limit ≤ vec_capacity i.starts)) v.items) }
+    ensures { IfOk result (λ v. (length v.items ≡ groups) × AllByRecursion (λ i. (i.starts.items ≡ []) × (limit ≤ vec_capacity i.starts)) v.items) }
 {
     let mut indexes = Vec::with_capacity(heap, groups as usize)?;
     for _ in 0..groups {

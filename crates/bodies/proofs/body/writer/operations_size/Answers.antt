@@ -1,5 +1,5 @@
 use Rattle.std.proofs.Common.{length, get_or, take, sym, ap, ◌∙◌, subst, arith, length-append}
-use Rattle.std.specs.List.{flat_map, AllByRecursion as All}
+use Rattle.std.specs.List.{flat_map, AllByRecursion}
 use Rattle.std.proofs.slice.Lists.{all_by_recursion_push}
 use Rattle.std.proofs.lemmas.List.{take_all, take_more}
 use Rattle.bodies.specs.Operations.{OperationFits, operation_bytes}
@@ -17,7 +17,7 @@ loop-operation-preserved c =
     let is = c.operation_size-size.ensures in (
       omega (arith, more, is.size),
       omega (arith, is.few),
-      subst (All OperationFits) (sym (take_more os i (Read 0) l))
+      subst (AllByRecursion OperationFits) (sym (take_more os i (Read 0) l))
           (all_by_recursion_push OperationFits (take i os) o c.loop-operation.invariant.2 is.fits),
     )
 
@@ -27,5 +27,5 @@ returns c =
     record {
       size = c.loop-operation.invariant.0 ∙ ap length (joined_all operation_bytes _ _ end);
       few = omega arith;
-      fit = subst (All OperationFits) (take_all _ _ end) c.loop-operation.invariant.2;
+      fit = subst (AllByRecursion OperationFits) (take_all _ _ end) c.loop-operation.invariant.2;
     }

@@ -1,5 +1,5 @@
 use Rattle.std.proofs.Common.{◌≡◌, ◌*◌, ◌≤◌, length, take}
-use Rattle.std.specs.List.{flat_map, AllByRecursion as All}
+use Rattle.std.specs.List.{flat_map, AllByRecursion}
 use Rattle.bodies.specs.Operations.{OperationFits, operation_bytes}
 use Rattle.bodies.proofs.body.writer.operations_size.Given as goal
 
@@ -8,4 +8,4 @@ abbrev pub invariant-loop-operation : goal.invariant-loop-operation
 invariant-loop-operation l =
     (l.size ≡ length (flat_map operation_bytes (take l.operation-index l.operations)))
     × (l.size ≤ 13 * l.operation-index)
-    × All OperationFits (take l.operation-index l.operations)
+    × AllByRecursion OperationFits (take l.operation-index l.operations)

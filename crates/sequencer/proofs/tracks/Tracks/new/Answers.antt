@@ -1,5 +1,5 @@
 use Rattle.std.proofs.Common.{sym, subst, arith}
-use Rattle.std.specs.List.{AllByRecursion as All}
+use Rattle.std.specs.List.{AllByRecursion}
 use Rattle.std.proofs.ByRecursion.{All-push}
 use Rattle.sequencer.proofs.Racks.{EmptyTrack, empty_lists, empty_space}
 use Rattle.sequencer.proofs.tracks.Tracks.new.Goals as goal
@@ -7,7 +7,7 @@ use Rattle.sequencer.proofs.tracks.Tracks.new.Goals as goal
 pub loop-init : goal.loop-init
 loop-init c =
     let made = c.in_ok-tracks.ensures in
-    (made.len, subst (All (EmptyTrack c.args.size)) (sym made.items) tt)
+    (made.len, subst (AllByRecursion (EmptyTrack c.args.size)) (sym made.items) tt)
 
 pub loop-preserved : goal.loop-preserved
 loop-preserved c =
@@ -15,7 +15,7 @@ loop-preserved c =
     let empty = EmptyTrack c.args.size in
     let made = c.in_ok-new in
     let all = All-push empty c.loop.tracks.items made.field-0 c.loop.invariant.1 made.ensures in
-    (omega (arith, pushed.len, c.loop.invariant.0), subst (All empty) (sym pushed.items) all)
+    (omega (arith, pushed.len, c.loop.invariant.0), subst (AllByRecursion empty) (sym pushed.items) all)
 
 pub returns : goal.returns
 returns c =

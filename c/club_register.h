@@ -1,6 +1,6 @@
 /* The club register's calls for the front end, which is written in C.
  *
- * Link with target/staticlib/libwire.a, which `rt staticlib wire` makes, and with lib/librattle_c.a of the toolchain.
+ * Link with libwire.a: `rt lib`, in crates/wire_c, makes it as out/libwire_c.a, and c/test.sh copies it to libwire.a.
  */
 #ifndef CLUB_REGISTER_H
 #define CLUB_REGISTER_H

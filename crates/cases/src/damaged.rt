@@ -1,7 +1,6 @@
 // Damaged messages: each well-formed message of the other tests, with each of its bytes changed in turn. What is still
 // read, by the reader of any kind, must be written again as just those bytes.
 use crate::{answers, body_cases, certificates};
-use std::process::Abort;
 use std::test::Fail;
 use wire::answer::reader::read_answer;
 use wire::answer::writer::write_answer;
@@ -18,41 +17,46 @@ fn are_again(out: &[u8], length: usize, bytes: &[u8]) -> bool {
     length == bytes.len() && length <= out.len() && &out[0..length] == bytes
 }
 
+// A test fails where this does not hold.
+fn check(holds: bool, what: &str) -> Result<(), Fail> {
+    if holds { Ok(()) } else { Err(Fail::new(what)) }
+}
+
 // Reads the bytes as each kind of message, writes again what was read, and answers how many kinds were.
-fn readings(rt: &impl Abort, width: usize, bytes: &[u8]) -> Result<u8, Fail> {
+fn readings(width: usize, bytes: &[u8]) -> Result<u8, Fail> {
     let mut out = [0; 2048];
     let mut kinds = 0;
     if let Ok(body) = read_body(bytes) {
         let length = write_body(&body, &mut out)?;
-        assert!(rt; are_again(&out, length, bytes), "a body");
+        check(are_again(&out, length, bytes), "a body")?;
         kinds += 1;
     }
     if let Ok(certificate) = read_certificate(width, bytes) {
         let length = write_certificate(&certificate, &mut out)?;
-        assert!(rt; are_again(&out, length, bytes), "a certificate");
+        check(are_again(&out, length, bytes), "a certificate")?;
         kinds += 1;
     }
     if let Ok(name) = read_proposal(bytes) {
         let length = write_proposal(&name, &mut out)?;
-        assert!(rt; are_again(&out, length, bytes), "a proposal");
+        check(are_again(&out, length, bytes), "a proposal")?;
         kinds += 1;
     }
     if let Ok(answer) = read_answer(width, bytes) {
         let length = write_answer(&answer, &mut out)?;
-        assert!(rt; are_again(&out, length, bytes), "an answer");
+        check(are_again(&out, length, bytes), "an answer")?;
         kinds += 1;
     }
     Ok(kinds)
 }
 
 // Changes the byte `at` in each way, and answers whether some of the damaged messages were read.
-fn damage_byte(rt: &impl Abort, width: usize, message: &mut [u8], at: usize) -> Result<bool, Fail> {
+fn damage_byte(width: usize, message: &mut [u8], at: usize) -> Result<bool, Fail> {
     let mut some = false;
     for change in CHANGES {
         if at < message.len() {
             message[at] ^= change;
-            let kinds = readings(rt, width, message)?;
-            assert!(rt; kinds <= 1, "one kind");
+            let kinds = readings(width, message)?;
+            check(kinds <= 1, "one kind")?;
             some |= kinds == 1;
             message[at] ^= change;
         }
@@ -61,23 +65,25 @@ fn damage_byte(rt: &impl Abort, width: usize, message: &mut [u8], at: usize) -> 
 }
 
 // Damages each byte of a message that is read as it stands. Some of the damaged ones must be read, and some not.
-fn damage(rt: &impl Abort, width: usize, message: &mut [u8]) -> Result<(), Fail> {
-    assert_eq!(rt; readings(rt, width, message)?, 1);
+fn damage(width: usize, message: &mut [u8]) -> Result<(), Fail> {
+    check(readings(width, message)? == 1, "read as it stands")?;
     let mut read = 0usize;
     for at in 0..message.len() {
-        if damage_byte(rt, width, message, at)? {
+        if damage_byte(width, message, at)? {
             read = read.wrapping_add(1);
         }
     }
-    assert!(rt; 0 < read && read < message.len());
-    Ok(())
+    check(
+        0 < read && read < message.len(),
+        "some are read, and some not",
+    )
 }
 
 #[test]
 fn damaged_bodies(rt: HostRuntime) -> Result<(), Fail> {
     for (digits, _) in body_cases::GOOD {
         let mut message = body_cases::bytes_of(&rt, digits)?;
-        damage(&rt, 36, message.as_mut_slice())?;
+        damage(36, message.as_mut_slice())?;
     }
     Ok(())
 }
@@ -94,23 +100,23 @@ fn damaged_certificates(rt: HostRuntime) -> Result<(), Fail> {
                 first,
                 step,
             )?;
-            damage(&rt, usize::from(width), message.as_mut_slice())?;
+            damage(usize::from(width), message.as_mut_slice())?;
         }
     }
     Ok(())
 }
 
 // Damages the proposal of the name that is this byte 32 times.
-fn damage_proposal(rt: &impl Abort, byte: u8) -> Result<(), Fail> {
+fn damage_proposal(byte: u8) -> Result<(), Fail> {
     let mut message = [0; 36];
     write_proposal(&Name { bytes: [byte; 32] }, &mut message)?;
-    damage(rt, 36, &mut message)
+    damage(36, &mut message)
 }
 
 #[test]
-fn damaged_proposals(rt: HostRuntime) -> Result<(), Fail> {
+fn damaged_proposals() -> Result<(), Fail> {
     for byte in [0, 5, 0xff] {
-        damage_proposal(&rt, byte)?;
+        damage_proposal(byte)?;
     }
     Ok(())
 }
@@ -120,7 +126,7 @@ fn damaged_answers(rt: HostRuntime) -> Result<(), Fail> {
     for (fields, width, count, end, good) in answers::CASES {
         if good {
             let mut message = answers::answer_bytes(rt.alloc(), fields, width, count, end)?;
-            damage(&rt, usize::from(width), message.as_mut_slice())?;
+            damage(usize::from(width), message.as_mut_slice())?;
         }
     }
     Ok(())

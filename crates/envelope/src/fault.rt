@@ -1,6 +1,8 @@
 // Why bytes are refused, or a buffer is. Each fault has its number in the register's table of refusals.
-ghost use Rattle.std.specs.Prelude.{◌≡◌};
-ghost use Rattle.envelope.specs.Faults.{read_number, write_number};
+ghost use Rattle.std.specs.Prelude.{◌≡◌, Some};
+ghost use Rattle.envelope.specs.Faults.{read_number, read_words, write_number};
+
+use std::fmt;
 
 /// What a reader refuses.
 #[derive(Clone, Copy, Debug, PartialEq, Eq)]
@@ -16,24 +18,34 @@ pub enum WriteFault {
     ShortBuffer,
 }
 
-impl ReadFault {
-    /// The number in the table of refusals.
-    pub fn number(self) -> u8
-        ensures { result ≡ read_number self }
-    {
-        match self {
+impl From<ReadFault> for u8 {
+    // The number in the table of refusals.
+    ghost from_gives = { λ fault number. number ≡ read_number fault };
+
+    fn from(fault: ReadFault) -> u8 {
+        match fault {
             ReadFault::Malformed => 10,
         }
     }
 }
 
-impl WriteFault {
-    /// The number in the table of refusals.
-    pub fn number(self) -> u8
-        ensures { result ≡ write_number self }
-    {
-        match self {
+impl From<WriteFault> for u8 {
+    // The number in the table of refusals.
+    ghost from_gives = { λ fault number. number ≡ write_number fault };
+
+    fn from(fault: WriteFault) -> u8 {
+        match fault {
             WriteFault::ShortBuffer => 8,
         }
+    }
+}
+
+impl fmt::Display for ReadFault {
+    ghost output = { λ fault. Some (read_words fault) };
+
+    fn fmt<W: fmt::Write>(&self, f: &mut fmt::Formatter<W>) -> fmt::Result {
+        f.write_str(match self {
+            ReadFault::Malformed => "malformed",
+        })
     }
 }

@@ -17,7 +17,7 @@ fn is_genuine<K: MarkScheme>(scheme: &K, name: &Name, vote: Vote, entry: &Entry)
     let statement = Statement {
         group: entry.group,
         replica: entry.replica,
-        vote: vote.byte(),
+        vote: vote.into(),
         name: *name,
     };
     scheme.check(&statement, entry.mark.as_slice())

@@ -1,5 +1,5 @@
 -- The grounds of an answer: the byte of each, and what stands at the end of the answer for a blocker.
-use Rattle.std.specs.Prelude.{◌≡◌, ℕ, ◌/◌, ◌%◌, ◌^◌, ◌<◌, Bool, cond, ◌&&◌, List, [], ◌∷◌, ◌++◌, length, take, Some, None, Option, ◌==◌, nat_lt, slice_index}
+use Rattle.std.specs.Prelude.{◌≡◌, ℕ, ◌/◌, ◌%◌, ◌^◌, ◌<◌, Bool, cond, ◌&&◌, List, [], ◌∷◌, ◌++◌, length, take, Some, None, Option, ◌==◌, nat_lt, slice_index, codes}
 use Rattle.votes.specs.Bytes.{with_byte}
 use Rattle.votes.specs.declared.ground.Blocker.{Blocker}
 use Rattle.votes.specs.declared.ground.Ground.{Ground}
@@ -18,6 +18,16 @@ ground_byte NoPlace = 3
 ground_byte Unequal = 4
 ground_byte Proposed = 5
 ground_byte Known = 6
+
+-- what a ground says
+abbrev pub ground_words : Ground → List ℕ
+ground_words Pending = codes "pending"
+ground_words NoRow = codes "a key has no row"
+ground_words (Blocked b) = codes "a pending transaction conflicts"
+ground_words NoPlace = codes "no place is free"
+ground_words Unequal = codes "a compare is not equal"
+ground_words Proposed = codes "abort was proposed"
+ground_words Known = codes "known already"
 
 -- the blocker that a ground brings
 abbrev pub blocker_of : Ground → Option Blocker

@@ -1,5 +1,5 @@
--- The states of a transaction at a replica, as bytes.
-use Rattle.std.specs.Prelude.{ℕ, [], ◌∷◌, Option}
+-- The states of a transaction at a replica, as bytes and in words.
+use Rattle.std.specs.Prelude.{ℕ, List, [], ◌∷◌, Option, codes}
 use Rattle.votes.specs.Bytes.{with_byte}
 use Rattle.votes.specs.declared.state.State.{State}
 use Rattle.votes.specs.declared.state.State.TheVariants.{Pending, Committed, RolledBack, Declined}
@@ -14,3 +14,10 @@ state_byte Declined = 4
 -- the state of a byte
 abbrev pub state_of : ℕ → Option State
 state_of = with_byte state_byte (Pending ∷ Committed ∷ RolledBack ∷ Declined ∷ [])
+
+-- a state in words
+abbrev pub state_words : State → List ℕ
+state_words Pending = codes "pending"
+state_words Committed = codes "committed"
+state_words RolledBack = codes "rolled back"
+state_words Declined = codes "declined"

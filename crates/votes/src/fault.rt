@@ -48,13 +48,13 @@ impl From<CertificateFault> for DeliveryFault {
     }
 }
 
-impl CertificateFault {
-    /// The number in the table of refusals.
-    pub fn number(self) -> u8
-        ensures { result ≡ certificate_number self }
-    {
-        match self {
-            CertificateFault::Read(fault) => fault.number(),
+impl From<CertificateFault> for u8 {
+    // The number in the table of refusals.
+    ghost from_gives = { λ fault number. number ≡ certificate_number fault };
+
+    fn from(fault: CertificateFault) -> u8 {
+        match fault {
+            CertificateFault::Read(fault) => fault.into(),
             CertificateFault::NotPending => 13,
             CertificateFault::Shape => 14,
             CertificateFault::NotGenuine => 15,
@@ -62,13 +62,13 @@ impl CertificateFault {
     }
 }
 
-impl DeliveryFault {
-    /// The number in the table of refusals.
-    pub fn number(self) -> u8
-        ensures { result ≡ delivery_number self }
-    {
-        match self {
-            DeliveryFault::Certificate(fault) => fault.number(),
+impl From<DeliveryFault> for u8 {
+    // The number in the table of refusals.
+    ghost from_gives = { λ fault number. number ≡ delivery_number fault };
+
+    fn from(fault: DeliveryFault) -> u8 {
+        match fault {
+            DeliveryFault::Certificate(fault) => fault.into(),
             DeliveryFault::NoKeyHere => 11,
             DeliveryFault::BookFull => 12,
             DeliveryFault::Spent => 16,

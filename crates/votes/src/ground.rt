@@ -1,8 +1,9 @@
 // The grounds of an answer, and the blocker that one of them brings.
-ghost use Rattle.std.specs.Prelude.{◌≡◌};
-ghost use Rattle.votes.specs.Grounds.{blocker_of, ground_byte, holds_group};
+ghost use Rattle.std.specs.Prelude.{◌≡◌, Some};
+ghost use Rattle.votes.specs.Grounds.{blocker_of, ground_byte, ground_words, holds_group};
 
 use envelope::name::Name;
+use std::fmt;
 
 /// A set of groups: bit g is set for each group g in it.
 #[derive(Clone, Copy, Debug, PartialEq, Eq)]
@@ -45,12 +46,11 @@ pub enum Ground {
     Known,
 }
 
-impl Ground {
-    /// The ground's byte.
-    pub fn byte(&self) -> u8
-        ensures { result ≡ ground_byte self.now }
-    {
-        match self {
+impl From<Ground> for u8 {
+    ghost from_gives = { λ g byte. byte ≡ ground_byte g };
+
+    fn from(ground: Ground) -> u8 {
+        match ground {
             Ground::Pending => 0,
             Ground::NoRow => 1,
             Ground::Blocked(_) => 2,
@@ -60,19 +60,32 @@ impl Ground {
             Ground::Known => 6,
         }
     }
+}
 
+impl fmt::Display for Ground {
+    ghost output = { λ g. Some (ground_words g) };
+
+    fn fmt<W: fmt::Write>(&self, f: &mut fmt::Formatter<W>) -> fmt::Result {
+        f.write_str(match self {
+            Ground::Pending => "pending",
+            Ground::NoRow => "a key has no row",
+            Ground::Blocked(_) => "a pending transaction conflicts",
+            Ground::NoPlace => "no place is free",
+            Ground::Unequal => "a compare is not equal",
+            Ground::Proposed => "abort was proposed",
+            Ground::Known => "known already",
+        })
+    }
+}
+
+impl Ground {
     /// The blocker that the ground brings.
     pub fn blocker(&self) -> Option<Blocker>
         ensures { result ≡ blocker_of self.now }
     {
         match *self {
-            Ground::Pending => None,
-            Ground::NoRow => None,
             Ground::Blocked(blocker) => Some(blocker),
-            Ground::NoPlace => None,
-            Ground::Unequal => None,
-            Ground::Proposed => None,
-            Ground::Known => None,
+            _ => None,
         }
     }
 }

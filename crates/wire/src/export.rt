@@ -15,6 +15,6 @@ pub fn club_register_name(message: &[u8], name: &mut [u8; 32]) -> u8
             *name = bytes;
             0
         }
-        Err(fault) => fault.number(),
+        Err(fault) => fault.into(),
     }
 }

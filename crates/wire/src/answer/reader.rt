@@ -40,8 +40,8 @@ fn read_head(text: &[u8]) -> Option<(Head, &[u8])>
         name,
         group: *group,
         replica: *replica,
-        vote: Vote::from_byte(*vote)?,
-        state: State::from_byte(*state)?,
+        vote: Vote::try_from(*vote).ok()?,
+        state: State::try_from(*state).ok()?,
         ground: *ground,
     };
     Some((head, rest))

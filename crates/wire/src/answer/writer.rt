@@ -73,9 +73,9 @@ fn write_head(out: &mut [u8], at: usize, answer: &Answer) -> usize
     ensures size { length (head_bytes (head_of (answer_model answer.now))) ≡ 37 }
 {
     let next = put(out, at, answer.name.as_slice());
-    let vote = answer.vote.byte();
-    let state = answer.state.byte();
-    let ground = answer.ground.byte();
+    let vote = u8::from(answer.vote);
+    let state = u8::from(answer.state);
+    let ground = u8::from(answer.ground);
     put(
         out,
         next,

@@ -53,7 +53,7 @@ fn read_contents(width: usize, text: &[u8]) -> Option<Certificate>
     let [vote, count, rest @ ..] = rest else {
         return None;
     };
-    let vote = Vote::from_byte(*vote)?;
+    let vote = Vote::try_from(*vote).ok()?;
     if *count as usize > MOST_ENTRIES {
         return None;
     }

@@ -57,7 +57,7 @@ fn write_contents(out: &mut [u8], at: usize, name: &Name, vote: Vote, entries: &
     ensures end { result ≡ at + (34 + length (flat_map entry_text entries.now)) }
 {
     let next = put(out, at, &name.bytes);
-    let next = put(out, next, &[vote.byte(), entries.len() as u8]);
+    let next = put(out, next, &[vote.into(), entries.len() as u8]);
     write_entries(out, next, entries)
 }
 

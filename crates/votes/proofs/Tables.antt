@@ -1,6 +1,9 @@
 -- Votes and states are told apart by their bytes.
-use Rattle.std.proofs.Common.{◌≡◌, ℕ, Bool, true, false, cond, eqb, List, [], ◌∷◌, Some, sym, refl, ap, ◌∙◌, arith}
+use Rattle.std.proofs.Common.{◌≡◌, ℕ, Bool, true, false, cond, eqb, List, [], ◌∷◌, Some, None, Option, Result, ok_or, sym, refl, ap, ◌∙◌, arith}
+use Rattle.std.specs.Result.{result_ok}
 use Rattle.std.proofs.lemmas.Bool.{eqb-true}
+use Rattle.envelope.specs.declared.fault.ReadFault.{ReadFault}
+use Rattle.envelope.specs.declared.fault.ReadFault.TheVariants.{Malformed}
 use Rattle.votes.specs.Bytes.{with_byte}
 use Rattle.votes.specs.States.{state_byte, state_of}
 use Rattle.votes.specs.Votes.{vote_byte, vote_of}
@@ -34,3 +37,8 @@ state_back Declined = refl
 
 pub state_is : (b : ℕ) (s : State) → state_of b ≡ Some s → b ≡ state_byte s
 state_is = with_byte_lem state_byte (Pending ∷ Committed ∷ RolledBack ∷ Declined ∷ [])
+
+-- what a conversion answers, without its fault, is what was found
+pub found_ok : {X : Type 0} (o : Option X) (r : Result X ReadFault) → r ≡ ok_or o Malformed → result_ok r ≡ o
+found_ok None r e = ap result_ok e
+found_ok (Some x) r e = ap result_ok e

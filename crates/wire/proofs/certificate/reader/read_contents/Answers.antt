@@ -1,4 +1,5 @@
-use Rattle.std.proofs.Common.{arith, rules}
+use Rattle.std.proofs.Common.{◌∙◌, arith, rules}
+use Rattle.votes.proofs.Tables.{found_ok}
 use Rattle.wire.proofs.CertificateParts.{made_of, no_entries, no_name, no_vote, too_many, too_short}
 use Rattle.wire.proofs.OneEntry.{two}
 use Rattle.wire.proofs.certificate.reader.read_contents.Goals as goal
@@ -16,7 +17,7 @@ returns-in_err-vote c =
     let n = c.in_ok-name.ensures in
     let t = two c.in_ok-name.rest.now (search rules) in
     rw c.from_residual-in_err-vote.ensures
-    (no_vote _ _ c.in_ok-name.name n.0 _ n.1 _ _ _ t c.in_err-vote.ensures)
+    (no_vote _ _ c.in_ok-name.name n.0 _ n.1 _ _ _ t (c.in_err-vote.ensures.value ∙ found_ok _ _ c.try_from.ensures))
 
 pub returns-then-count-gt-MOST_ENTRIES : goal.returns-then-count-gt-MOST_ENTRIES
 returns-then-count-gt-MOST_ENTRIES c =
@@ -36,5 +37,5 @@ returns c =
     let n = c.in_ok-name.ensures in
     let t = two c.in_ok-name.rest.now (search rules) in
     let es = c.in_ok-entries.ensures in
-    made_of _ _ c.in_ok-name.name n.0 _ n.1 _ _ _ t c.in_ok-vote.vote c.in_ok-vote.ensures
+    made_of _ _ c.in_ok-name.name n.0 _ n.1 _ _ _ t c.in_ok-vote.vote (c.in_ok-vote.ensures.value ∙ found_ok _ _ c.try_from.ensures)
     _ es.0 es.1 es.2 (omega arith) c.new.result c.new.ensures

@@ -16,7 +16,7 @@ returns c =
     let first = c.put-next.ensures in
     let second = c.put-next-2.ensures in
     let last = c.write_entries.ensures in
-    let vote = ap (λ v. v ∷ length es ∷ []) c.byte.ensures in
+    let vote = ap (λ v. v ∷ length es ∷ []) c.into.ensures in
     let two = overlaid_more out name middle _ _ _ at _ (omega arith) first.after first.end vote second.after in
     let three = overlaid_more out (name ++ middle) (flat_map entry_text es) _ _ _ at _ (omega arith) two
     (omega (arith, first.end, second.end, length-append name middle)) refl last.after in

@@ -4,13 +4,13 @@ use Rattle.std.specs.List.{flat_map, AllByRecursion}
 use Rattle.octets.specs.Numbers.{Fits64, bytes64}
 use Rattle.envelope.specs.Formats.{Format}
 use Rattle.envelope.specs.Messages.{body_kind}
-use Rattle.bodies.specs.OperationLists.{listed}
+use Rattle.lists.specs.Lists.{listed}
 use Rattle.bodies.specs.Operations.{OperationFits, operation_bytes, writes_apart}
 use Rattle.bodies.specs.declared.body.Body.{Body}
 use Rattle.envelope.specs.declared.fault.ReadFault.{ReadFault}
 use Rattle.envelope.specs.declared.fault.ReadFault.TheVariants.{Malformed}
 use Rattle.bodies.specs.declared.operation.Operation.{Operation}
-use Rattle.bodies.specs.declared.operations.Operations.{Operations}
+use Rattle.lists.specs.declared.BoundedList.{BoundedList}
 
 -- the most operations that a body has
 abbrev pub most_operations : ℕ
@@ -45,7 +45,7 @@ abbrev pub body_format : Format BodyModel
 body_format = record { kind = body_kind; Fits = BodyFits; contents = body_contents }
 
 -- n operations, which bs is the writing of; or bs is the writing of no n operations
-abbrev pub ReadsOperations : ℕ → List ℕ → Option Operations → Type 0
+abbrev pub ReadsOperations : ℕ → List ℕ → Option (BoundedList Operation most_operations) → Type 0
 ReadsOperations n bs (Some o) =
     (length (listed o) ≡ n) × AllByRecursion OperationFits (listed o) × (bs ≡ flat_map operation_bytes (listed o))
 ReadsOperations n bs None =

@@ -1,7 +1,7 @@
 // The body of a transaction: a nonce, and one to sixteen operations of which no two write one key.
 ghost use Rattle.std.specs.Prelude.{◌≡◌, ◌≤◌, true, length};
-ghost use Rattle.bodies.specs.OperationLists.{listed};
 ghost use Rattle.bodies.specs.Operations.{writes_apart};
+ghost use Rattle.lists.specs.Lists.{listed};
 
 use crate::operations::Operations;
 

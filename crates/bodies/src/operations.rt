@@ -1,7 +1,6 @@
 // A list of at most sixteen operations, with no allocation.
-ghost use Rattle.std.specs.Prelude.{◌≤◌};
-
 use crate::operation::Operation;
+use lists::BoundedList;
 
 pub mod list;
 
@@ -9,9 +8,7 @@ pub mod list;
 pub const MOST_OPERATIONS: usize = 16;
 
 /// At most sixteen operations, in order.
-#[derive(Clone, Copy)]
-pub struct Operations {
-    count: usize,
-    items: [Operation; MOST_OPERATIONS],
-    ghost within: { count ≤ 16 },
-}
+pub type Operations = BoundedList<Operation, MOST_OPERATIONS>;
+
+/// What stands in the places that a list of operations does not use.
+pub const FILLER: Operation = Operation::Read { key: 0 };

@@ -127,8 +127,7 @@ fn is_below<K: Key>(left: &K, right: &K) -> bool
 fn first<T>(items: &[T], count: usize) -> &[T]
     ensures { result.now ≡ take count items.now }
 {
-    let end = count.min(items.len());
-    &items[0..end]
+    items.get(..count).unwrap_or(items)
 }
 
 // Puts `item` in at `at`, among the first `count` items; those from there on move up by one.

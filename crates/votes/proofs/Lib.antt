@@ -1,4 +1,3 @@
-pub mod Bounded
 pub mod EntryTurns
 pub mod GroundParts
 pub mod Tables

@@ -1,5 +1,6 @@
 -- The entries of a certificate: what each says, how it is written, and their order.
 use Rattle.std.specs.Prelude.{◌≡◌, ℕ, ◌+◌, ◌*◌, ◌<◌, ◌≤◌, Bool, true, ◌&&◌, List, [], ◌∷◌, length, ◌==◌, nat_le}
+use Rattle.std.specs.List.{list_all}
 use Rattle.votes.specs.Marks.{largest_mark, mark_bytes}
 use Rattle.votes.specs.declared.entry.Entry.{Entry}
 
@@ -34,8 +35,7 @@ pub record EntryFits (m : ℕ) (e : EntryModel) : Type 0 where
 
 -- whether every mark has m bytes
 abbrev pub all_wide : ℕ → List EntryModel → Bool
-all_wide m [] = true
-all_wide m (e ∷ es) = length e.mark == m && all_wide m es
+all_wide m es = list_all (λ e. length e.mark == m) es
 
 -- the order of entries: by group, then by replica
 abbrev pub rank : EntryModel → ℕ

@@ -1,8 +1,10 @@
 -- The entries that a bounded list holds.
-use Rattle.std.specs.Prelude.{List, map, take}
-use Rattle.votes.specs.Entries.{EntryModel, shown}
-use Rattle.votes.specs.declared.entry.Entries.{Entries}
+use Rattle.std.specs.Prelude.{List, map}
+use Rattle.lists.specs.Lists.{listed}
+use Rattle.lists.specs.declared.BoundedList.{BoundedList}
+use Rattle.votes.specs.Entries.{EntryModel, most_entries, shown}
+use Rattle.votes.specs.declared.entry.Entry.{Entry}
 
--- those that it counts
-abbrev pub entry_list : Entries → List EntryModel
-entry_list es = map shown (take es.count es.items)
+-- what they say
+abbrev pub entry_list : BoundedList Entry most_entries → List EntryModel
+entry_list es = map shown (listed es)

@@ -1,5 +1,6 @@
 -- Marks, as bytes.
-use Rattle.std.specs.Prelude.{◌≡◌, ℕ, ◌<◌, ◌≤◌, List, length, take, Some, None, Option}
+use Rattle.std.specs.Prelude.{◌≡◌, ℕ, ◌<◌, ◌≤◌, List, length, Some, None, Option}
+use Rattle.lists.specs.Lists.{listed}
 use Rattle.votes.specs.declared.mark.Mark.{Mark}
 
 -- the most bytes that a mark has
@@ -8,7 +9,7 @@ largest_mark = 60
 
 -- the bytes of a mark
 abbrev pub mark_bytes : Mark → List ℕ
-mark_bytes m = take m.size m.bytes
+mark_bytes m = listed m.0
 
 -- the mark of these bytes, or none where they are too many
 abbrev pub MadeMark : List ℕ → Option Mark → Type 0

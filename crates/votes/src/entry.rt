@@ -1,7 +1,6 @@
 // Entries of a certificate: at most 32, with no allocation.
-ghost use Rattle.std.specs.Prelude.{◌≤◌};
-
 use crate::mark::Mark;
+use lists::BoundedList;
 
 pub mod list;
 
@@ -17,9 +16,4 @@ pub struct Entry {
 }
 
 /// At most 32 entries, in order.
-#[derive(Clone, Copy)]
-pub struct Entries {
-    count: usize,
-    items: [Entry; MOST_ENTRIES],
-    ghost within: { count ≤ 32 },
-}
+pub type Entries = BoundedList<Entry, MOST_ENTRIES>;

@@ -2,30 +2,21 @@
 ghost use Rattle.std.specs.Prelude.{◌≡◌, ◌≤◌, length};
 ghost use Rattle.votes.specs.Marks.{MadeMark, largest_mark, mark_bytes};
 
-use octets::put;
+use lists::BoundedList;
 
 /// The most bytes that a mark has.
 pub const LARGEST_MARK: usize = 60;
 
 /// The bytes by which a replica proves a statement; how many depends on the mark scheme.
 #[derive(Clone, Copy)]
-pub struct Mark {
-    size: usize,
-    bytes: [u8; LARGEST_MARK],
-}
+pub struct Mark(BoundedList<u8, LARGEST_MARK>);
 
 impl Mark {
     /// The mark of these bytes, unless they are too many.
     pub fn new(source: &[u8]) -> Option<Mark>
         ensures { MadeMark source.now result }
     {
-        let size = source.len();
-        if size > LARGEST_MARK {
-            return None;
-        }
-        let mut bytes = [0; LARGEST_MARK];
-        put(&mut bytes, 0, source);
-        Some(Mark { size, bytes })
+        BoundedList::from_slice(0, source).map(Mark)
     }
 
     /// The bytes.
@@ -33,7 +24,6 @@ impl Mark {
         ensures value { result.now ≡ mark_bytes self.now }
         ensures few { length result.now ≤ largest_mark }
     {
-        let end = self.size.min(LARGEST_MARK);
-        &self.bytes[0..end]
+        self.0.as_slice()
     }
 }

@@ -10,13 +10,14 @@ use Rattle.wire.specs.Fields.{NameFits, name_bytes}
 use Rattle.votes.specs.Grounds.{GroundFits, ground_byte, ground_end}
 use Rattle.votes.specs.Marks.{largest_mark, mark_bytes}
 use Rattle.votes.specs.States.{state_byte}
-use Rattle.votes.specs.Values.{listed, most_values}
+use Rattle.votes.specs.Values.{most_values}
 use Rattle.votes.specs.Votes.{vote_byte}
+use Rattle.lists.specs.Lists.{listed}
+use Rattle.lists.specs.declared.BoundedList.{BoundedList}
 use Rattle.wire.specs.declared.answer.Answer.{Answer}
 use Rattle.wire.specs.declared.answer.reader.Head.{Head}
 use Rattle.votes.specs.declared.ground.Ground.{Ground}
 use Rattle.votes.specs.declared.state.State.{State}
-use Rattle.votes.specs.declared.values.Values.{Values}
 use Rattle.votes.specs.declared.vote.Vote.{Vote}
 
 -- what an answer says
@@ -103,6 +104,6 @@ abbrev pub ValuesFit : List ℕ → Type 0
 ValuesFit vs = (length vs ≤ most_values) × AllByRecursion Fits64 vs
 
 -- bs begins with the values that were read, and the rest follows; or it begins with no values
-abbrev pub FirstValues : List ℕ → Option (Values × Bor (List ℕ)) → Type 0
+abbrev pub FirstValues : List ℕ → Option (BoundedList ℕ most_values × Bor (List ℕ)) → Type 0
 FirstValues bs (Some p) = ValuesFit (listed p.0) × (bs ≡ values_bytes (listed p.0) ++ p.1.now)
 FirstValues bs None = (vs rest : List ℕ) → ValuesFit vs → bs ≢ values_bytes vs ++ rest

@@ -6,10 +6,10 @@ use Rattle.envelope.specs.Messages.{certificate_kind}
 use Rattle.envelope.specs.declared.name.Name.{Name}
 use Rattle.votes.specs.Entries.{EntryFits, EntryModel, entry_bytes, entry_text, most_entries, rises}
 use Rattle.votes.specs.EntryLists.{entry_list}
+use Rattle.lists.specs.declared.BoundedList.{BoundedList}
 use Rattle.wire.specs.Fields.{NameFits, name_bytes}
 use Rattle.votes.specs.Votes.{vote_byte}
 use Rattle.wire.specs.declared.certificate.Certificate.{Certificate}
-use Rattle.votes.specs.declared.entry.Entries.{Entries}
 use Rattle.votes.specs.declared.entry.Entry.{Entry}
 use Rattle.votes.specs.declared.vote.Vote.{Vote}
 
@@ -49,7 +49,7 @@ abbrev pub certificate_text : Certificate → List ℕ
 certificate_text c = written (certificate_format c.width) (certificate_model c)
 
 -- n entries, which bs is the writing of; or bs is the writing of no n entries
-abbrev pub ReadsEntries : ℕ → ℕ → List ℕ → Option Entries → Type 0
+abbrev pub ReadsEntries : ℕ → ℕ → List ℕ → Option (BoundedList Entry most_entries) → Type 0
 ReadsEntries m n bs (Some es) =
     (length (entry_list es) ≡ n) × AllByRecursion (EntryFits m) (entry_list es) × (bs ≡ flat_map entry_bytes (entry_list es))
 ReadsEntries m n bs None =

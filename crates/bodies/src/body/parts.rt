@@ -6,7 +6,7 @@ ghost use Rattle.bodies.specs.Operations.{writes_apart};
 use crate::body::Body;
 use crate::operation::Operation;
 use crate::operations::list::writes_apart;
-use crate::operations::{MOST_OPERATIONS, Operations};
+use crate::operations::{FILLER, Operations};
 use envelope::fault::ReadFault;
 
 impl Body {
@@ -14,20 +14,13 @@ impl Body {
     pub fn new(nonce: u64, operations: &[Operation]) -> Result<Body, ReadFault>
         ensures { Made (record { nonce = nonce; operations = operations.now }) result }
     {
-        if operations.is_empty()
-            || operations.len() > MOST_OPERATIONS
-            || !writes_apart(operations)
-        {
-            return Err(ReadFault::Malformed);
+        match Operations::from_slice(FILLER, operations) {
+            Some(list) if !operations.is_empty() && writes_apart(operations) => Ok(Body {
+                nonce,
+                operations: list,
+            }),
+            _ => Err(ReadFault::Malformed),
         }
-        let mut list = Operations::new();
-        for operation in operations {
-            list.push(*operation);
-        }
-        Ok(Body {
-            nonce,
-            operations: list,
-        })
     }
 
     /// The number that tells apart bodies of the same operations.

@@ -6,7 +6,7 @@ ghost use Rattle.envelope.specs.Formats.{OneWriting, Reads, ReadsContents, Round
 use crate::body::Body;
 use crate::operation::read_operation;
 use crate::operations::list::writes_apart;
-use crate::operations::{MOST_OPERATIONS, Operations};
+use crate::operations::{FILLER, MOST_OPERATIONS, Operations};
 use envelope::fault::ReadFault;
 use envelope::message::{BODY_KIND, is_message};
 use octets::read_u64;
@@ -16,7 +16,7 @@ fn read_operations(count: u8, text: &[u8]) -> Option<Operations>
     requires { count ≤ most_operations }
     ensures { ReadsOperations count text.now result }
 {
-    let mut operations = Operations::new();
+    let mut operations = Operations::new(FILLER);
     let mut rest = text;
     for i in 0..count {
         let (operation, after) = read_operation(rest)?;

@@ -1,39 +1,8 @@
-// What the operations of a body are, as a list, and whether two of them write one key.
-ghost use Rattle.std.specs.Prelude.{◌≡◌, ◌<◌, ◌≤◌, [], ◌∷◌, ◌++◌, length};
+// Whether two of the operations of a body write one key.
+ghost use Rattle.std.specs.Prelude.{◌≡◌};
 ghost use Rattle.bodies.specs.Operations.{is_alone, writes_apart, writes_key, writes_to};
-ghost use Rattle.bodies.specs.OperationLists.{listed};
 
 use crate::operation::Operation;
-use crate::operations::{MOST_OPERATIONS, Operations};
-
-impl Operations {
-    /// No operations.
-    pub fn new() -> Operations
-        ensures { listed result ≡ [] }
-    {
-        Operations {
-            count: 0,
-            items: [Operation::Read { key: 0 }; MOST_OPERATIONS],
-        }
-    }
-
-    /// The operations, in order.
-    pub fn as_slice(&self) -> &[Operation]
-        ensures items { result.now ≡ listed self.now }
-        ensures few { length result.now ≤ 16 }
-    {
-        &self.items[0..self.count]
-    }
-
-    /// Adds an operation at the end. The caller has seen that there is room.
-    pub fn push(&mut self, operation: Operation)
-        requires { length (listed self.old) < 16 }
-        ensures { listed self.new ≡ listed self.old ++ (operation ∷ []) }
-    {
-        self.items[self.count] = operation;
-        self.count += 1;
-    }
-}
 
 // Whether the operation writes the key.
 fn writes_to(operation: &Operation, sought: u32) -> bool

@@ -57,7 +57,7 @@ fn read_values(text: &[u8]) -> Option<(Values, &[u8])>
     if *count as usize > MOST_VALUES {
         return None;
     }
-    let mut values = Values::new();
+    let mut values = Values::new(0);
     let mut rest = rest;
     for i in 0..*count {
         let (value, after) = read_u64(rest)?;

@@ -35,7 +35,11 @@ fn read_entries(width: usize, count: u8, text: &[u8]) -> Option<Entries>
     requires { count ≤ most_entries }
     ensures { ReadsEntries width count text.now result }
 {
-    let mut entries = Entries::new(Mark::new(&[])?);
+    let mut entries = Entries::new(Entry {
+        group: 0,
+        replica: 0,
+        mark: Mark::new(&[])?,
+    });
     let mut rest = text;
     for i in 0..count {
         let (entry, after) = read_entry(width, rest)?;

@@ -1,4 +1,4 @@
-use Rattle.bodies.specs.OperationLists.{listed}
+use Rattle.lists.specs.Lists.{listed}
 use Rattle.bodies.specs.Operations.{OperationFits, operation_bytes}
 use Rattle.envelope.proofs.Sequences.{Sofar}
 use Rattle.bodies.proofs.body.reader.read_operations.Given as goal

@@ -1,13 +1,11 @@
-use Rattle.votes.proofs.EntryTurns.{wide_all, wide_not, wide_on}
+use Rattle.std.proofs.Common.{eqb, length, sym, ◌∙◌, rules, tests}
+use Rattle.std.proofs.lemmas.Iterator.{YieldsList-from_slice}
+use Rattle.std.proofs.lemmas.Iterator.Search.{all_from_yields_List}
+use Rattle.std.proofs.lemmas.List.Folds.{list_all-map}
+use Rattle.votes.specs.Entries.{shown}
 use Rattle.votes.proofs.entry.list.all_wide.Goals as goal
 
-pub returns-then-as_slice-width : goal.returns-then-as_slice-width
-returns-then-as_slice-width c =
-    wide_not _ _ _ c.loop-entry.invariant c.loop-entry-test.true _ c.as_slice.ensures.value c.if-as_slice-width.true
-
-pub loop-entry-preserved : goal.loop-entry-preserved
-loop-entry-preserved c =
-    wide_on _ _ _ c.loop-entry.invariant c.loop-entry-test.true _ c.as_slice.ensures.value c.if-as_slice-width.false
-
 pub returns : goal.returns
-returns c = wide_all _ _ _ c.loop-entry.invariant c.loop-entry-test.false
+returns c =
+    all_from_yields_List _ _ _ _ c.all.ensures.ran (YieldsList-from_slice c.args.entries.now cc) (λ x b q k. search (rules, tests))
+    ∙ sym (list_all-map (λ e. eqb (length e.mark) c.args.width) shown c.args.entries.now)

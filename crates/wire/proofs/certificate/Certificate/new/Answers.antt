@@ -12,7 +12,7 @@ size es list same = sym (length-map es shown) ∙ ap length same
 
 pub returns-then-is_empty : goal.returns-then-is_empty
 returns-then-is_empty c fits =
-    let same = c.as_slice-list.ensures.items in
+    let same = ap (map shown) c.as_slice-list.ensures.items in
     elim c.then-is_empty.branch [
       | then-is_empty-via-then-is_empty w ↦ omega (arith, true-eqb _ 0 w.if-is_empty.ensures, size _ _ same, fits.some)
       | then-is_empty-via-else-is_empty+then-not-all_wide w ↦
@@ -26,7 +26,7 @@ some es list same test = let h = false-eqb _ 0 test in omega (arith, size es lis
 
 pub invariant_of-result : goal.invariant_of-result
 invariant_of-result c =
-    let same = c.as_slice-list.ensures.items in
+    let same = ap (map shown) c.as_slice-list.ensures.items in
     record {
       some = some _ _ same c.if-is_empty.ensures;
       wide = ap (all_wide c.args.width) (sym same) ∙ sym c.if-not-all_wide.ensures;

@@ -1,6 +1,8 @@
-use Rattle.std.proofs.Common.{[], length, sym, ap, ◌∙◌, append-nil, arith, true-eqb, false-eqb}
+use Rattle.std.proofs.Common.{[], ◌∷◌, map, length, sym, ap, ◌∙◌, append-nil, arith, true-eqb, false-eqb}
+use Rattle.std.proofs.lemmas.List.{map-append}
 use Rattle.envelope.proofs.Sequences.{one_more, next, ends, all_read}
-use Rattle.votes.specs.Entries.{EntryFits, entry_bytes}
+use Rattle.lists.specs.Lists.{listed}
+use Rattle.votes.specs.Entries.{EntryFits, entry_bytes, shown}
 use Rattle.wire.proofs.OneEntry.{same_entry}
 use Rattle.wire.proofs.certificate.reader.read_entries.Goals as goal
 
@@ -15,7 +17,8 @@ returns-in_err-entry c =
 pub loop-i-preserved : goal.loop-i-preserved
 loop-i-preserved c =
     let e = c.in_ok-entry.ensures in
-    one_more (EntryFits c.args.width) entry_bytes _ _ _ _ c.loop-i.invariant _ _ _ c.push.ensures e.0 e.1
+    let pushed = ap (map shown) c.push.ensures ∙ map-append shown (listed c.loop-i.entries) (c.in_ok-entry.entry ∷ []) in
+    one_more (EntryFits c.args.width) entry_bytes _ _ _ _ c.loop-i.invariant _ _ _ pushed e.0 e.1
 
 pub returns-then-is_empty : goal.returns-then-is_empty
 returns-then-is_empty c = (

@@ -31,17 +31,20 @@ module _ {X : Type 0} (f : X → Bool) (xs : List X) (i : ℕ) (inv : all f (dro
   pub all_on : (d : X) → i < length xs → true ≡ f (get_or xs i d) → all f (drop (i + 1) xs) ≡ all f xs
   all_on d l e = sym (step d l ∙ ap (λ b. b && all f (drop (i + 1) xs)) (sym e))
 
--- the same of what each member shows
+-- the same of what each member shows; x is the member of this turn
 module _ {X Y : Type 0} (f : Y → Bool) (g : X → Y) (xs : List X) (i : ℕ)
     (inv : all f (map g (drop i xs)) ≡ all f (map g xs)) where
   pub each_end : length xs ≤ i → true ≡ all f (map g xs)
   each_end l = sym (at_drop_all (λ ys. all f (map g ys)) xs i l) ∙ inv
 
-  stride : (d : X) → i < length xs → all f (map g xs) ≡ (f (g (get_or xs i d)) && all f (map g (drop (i + 1) xs)))
-  stride d l = sym inv ∙ at_drop_more (λ ys. all f (map g ys)) xs i d l
+  stride : (x : X) → x ≡ get_or xs i x → i < length xs → (b : Bool) → b ≡ f (g x)
+      → all f (map g xs) ≡ (b && all f (map g (drop (i + 1) xs)))
+  stride x is l b e =
+      sym inv ∙ at_drop_more (λ ys. all f (map g ys)) xs i x l
+      ∙ ap (λ t. t && all f (map g (drop (i + 1) xs))) (sym (e ∙ ap (λ y. f (g y)) is))
 
-  pub each_not : (d : X) → i < length xs → false ≡ f (g (get_or xs i d)) → false ≡ all f (map g xs)
-  each_not d l e = sym (stride d l ∙ ap (λ b. b && all f (map g (drop (i + 1) xs))) (sym e))
+  pub each_not : (x : X) → x ≡ get_or xs i x → i < length xs → false ≡ f (g x) → false ≡ all f (map g xs)
+  each_not x is l e = sym (stride x is l false e)
 
-  pub each_on : (d : X) → i < length xs → true ≡ f (g (get_or xs i d)) → all f (map g (drop (i + 1) xs)) ≡ all f (map g xs)
-  each_on d l e = sym (stride d l ∙ ap (λ b. b && all f (map g (drop (i + 1) xs))) (sym e))
+  pub each_on : (x : X) → x ≡ get_or xs i x → i < length xs → true ≡ f (g x) → all f (map g (drop (i + 1) xs)) ≡ all f (map g xs)
+  each_on x is l e = sym (stride x is l true e)

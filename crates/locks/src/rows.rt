@@ -4,7 +4,8 @@ ghost use Rattle.locks.specs.Groups.{is_local, key_of};
 ghost use Rattle.locks.specs.LocalRows.{differs, is_read, is_unequal, lacks_row, read_values, value_at, written_by, written_by_all};
 ghost use Rattle.table.specs.Orders.{by_number};
 ghost use Rattle.table.specs.Rows.{rising};
-ghost use Rattle.votes.specs.Values.{listed, most_values};
+ghost use Rattle.lists.specs.Lists.{listed};
+ghost use Rattle.votes.specs.Values.{most_values};
 
 use crate::groups::key_of;
 use crate::partition::Partition;
@@ -105,7 +106,7 @@ pub fn read_values(
     requires { (rising by_number rows.now ≡ true) × (length operations.now ≤ most_values) }
     ensures { listed result ≡ read_values partition.now.groups partition.now.group rows.now operations.now }
 {
-    let mut values = Values::new();
+    let mut values = Values::new(0);
     for operation in operations {
         if reads_here(partition, operation) {
             let value = get(rows, &key_of(operation)).unwrap_or(0);

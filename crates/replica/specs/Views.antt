@@ -1,7 +1,7 @@
 -- What the code's replica holds, and what its replies say.
 use Rattle.std.specs.Prelude.{map, take, Ok, Err, vec_items, vec_len, Option, Result}
 use Rattle.std.specs.Option.{option_map}
-use Rattle.votes.specs.Values.{listed}
+use Rattle.lists.specs.Lists.{listed}
 use Rattle.votes.specs.declared.fault.DeliveryFault.{DeliveryFault}
 use Rattle.votes.specs.declared.ground.Ground.{Ground}
 use Rattle.replica.specs.Models.{Config, ReplicaModel, ReplyModel}

@@ -11,7 +11,7 @@ ghost use Rattle.replica.specs.Transactions.{transaction};
 ghost use Rattle.replica.specs.Views.{config, reply_model, view};
 ghost use Rattle.table.specs.Orders.{by_bytes};
 ghost use Rattle.table.specs.Rows.{lookup};
-ghost use Rattle.votes.specs.Values.{listed};
+ghost use Rattle.lists.specs.Lists.{listed};
 
 use crate::book::{Delivered, enter, meet_named};
 use crate::pending::find_pending;
@@ -55,7 +55,7 @@ impl Replica {
     {
         match find_pending(&self.pending, name) {
             Some(held) => read_values(&self.partition, &self.rows, held.body.operations()),
-            None => Values::new(),
+            None => Values::new(0),
         }
     }
 
@@ -65,9 +65,9 @@ impl Replica {
     {
         match state {
             State::Pending => self.reads_again(name),
-            State::Committed => Values::new(),
-            State::RolledBack => Values::new(),
-            State::Declined => Values::new(),
+            State::Committed => Values::new(0),
+            State::RolledBack => Values::new(0),
+            State::Declined => Values::new(0),
         }
     }
 
@@ -122,7 +122,7 @@ impl Replica {
             vote: Vote::Abort,
             state: State::Declined,
             ground,
-            reads: Values::new(),
+            reads: Values::new(0),
         }
     }
 

@@ -1,7 +1,7 @@
 use Rattle.std.proofs.Common.{◌≡◌, [], ◌∷◌, ◌++◌, length, ap, ◌∙◌, arith}
 use Rattle.std.proofs.lemmas.List.{length_push}
 use Rattle.bodies.specs.declared.operation.Operation.TheVariants.{Read}
-use Rattle.votes.specs.Values.{listed}
+use Rattle.lists.specs.Lists.{listed}
 use Rattle.locks.proofs.RowTurns.{read_end, read_hit, read_miss}
 use Rattle.locks.proofs.rows.read_values.Goals as goal
 use Rattle.locks.proofs.rows.read_values.Goals.{then-reads_here, else-reads_here}

@@ -1,5 +1,5 @@
 use Rattle.std.proofs.Common.{◌≡◌, ◌≤◌, ◌++◌, length, drop}
-use Rattle.votes.specs.Values.{listed}
+use Rattle.lists.specs.Lists.{listed}
 use Rattle.locks.specs.LocalRows.{read_values}
 use Rattle.locks.proofs.rows.read_values.Given as goal
 

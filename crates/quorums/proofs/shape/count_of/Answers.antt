@@ -11,7 +11,7 @@ loop-entry-preserved c =
         omega (
           arith,
           w.count-is,
-          count_hit _ _ _ _ c.loop-entry.invariant.1 _ c.loop-entry-test.true w.if-entry-group.true,
+          count_hit _ _ _ _ c.loop-entry.invariant.1 _ c.entry-item.is c.loop-entry-test.true w.if-entry-group.true,
         ),
       )
       | else-entry-group w ↦ (
@@ -19,7 +19,7 @@ loop-entry-preserved c =
         omega (
           arith,
           w.count-is,
-          count_miss _ _ _ _ c.loop-entry.invariant.1 _ c.loop-entry-test.true w.if-entry-group.false,
+          count_miss _ _ _ _ c.loop-entry.invariant.1 _ c.entry-item.is c.loop-entry-test.true w.if-entry-group.false,
         ),
       )
     ]

@@ -1,3 +1,4 @@
-pub mod Indexing
+pub mod Decoding
+pub mod Groups
 pub mod Racks
-pub mod Reading
+pub mod Starting

@@ -1,92 +1,67 @@
 -- A track among the tracks, and another in its place.
-use Rattle.std.proofs.Common.{◌≡◌, ℕ, zero, suc, ◌<◌, true, cond, ◌&&◌, eqb, ltb, List, [], ◌∷◌, ◌++◌, length, get_or, set, Some, None, Option, sym, refl, ap, ◌∙◌, ap₂, ⊎_elim, arith}
+use Rattle.std.proofs.Common.{◌≡◌, ℕ, zero, suc, ◌<◌, ◌≤◌, Bool, true, false, cond, ◌&&◌, ◌==◌, if◌then◌else◌, List, [], ◌∷◌, ◌++◌, length, get_or, set, Some, None, Option, nat_lt, sym, refl, ap, ◌∙◌, subst, inl, inr, ⊎_elim, Vec, Global, arith}
+use Rattle.std.proofs.Props.{props}
+use Rattle.std.proofs.lemmas.Grind.{common_steps}
 use Rattle.std.specs.Option.{option_map}
-use Rattle.std.specs.List.{AllByRecursion, slice_get}
-use Rattle.std.proofs.lemmas.List.{append-nil}
-use Rattle.std.proofs.lemmas.Option.{slice_get_past, slice_get_read}
-use Rattle.std.proofs.lemmas.Bool.{cases_eq, cases_lt, eq-eqb, false≢true, le-ltb, lt-ltb, ne_eqb}
-use Rattle.sequencer.specs.Lists.{Sized}
-use Rattle.sequencer.specs.Records.{Entry, has_space, messages_of, with_record}
-use Rattle.sequencer.specs.Tracks.{fits_on, list_on, track_buffer}
-use Rattle.sequencer.specs.declared.track.Track.{Track}
-use Rattle.sequencer.specs.Space.{messages_none}
-use Rattle.sequencer.specs.PlacesLemmas.{messages_more}
+use Rattle.std.specs.List.{All, slice_get}
+use Rattle.std.specs.Vec.{with_item}
+use mathlib.Core.HLevel.{Σ_prop_path}
+use Rattle.std.proofs.lemmas.List.{append-nil, set-get_or}
+use Rattle.std.proofs.lemmas.Option.{gets, slice_get_cases, slice_get_within}
+use Rattle.std.proofs.lemmas.Bool.{cases_eq, eq-eqb, le-ltb, lt-ltb, ne_eqb}
+use Rattle.sequencer.specs.Lists.{Fresh}
+use Rattle.sequencer.specs.Records.{has_space, messages_of}
+use Rattle.sequencer.specs.Tapes.{tape_fits, tape_lists}
+use Rattle.sequencer.specs.Tracks.{fits_on, list_on, track_fits, track_lists}
+use Rattle.sequencer.specs.declared.records.Records.{Records}
+use Rattle.sequencer.specs.declared.tracks.Tracks.{Tracks}
 
--- what fits has a track
-pub fits_within : (ts : List Track) (g n : ℕ) → fits_on (slice_get ts g) n ≡ true → g < length ts
-fits_within [] g n e = absurd (false≢true e)
-fits_within (t ∷ ts) zero n e = omega arith
-fits_within (t ∷ ts) (suc g) n e = let l = fits_within ts g n e in omega arith
+-- a track is records of one group
+module _ (t : Records 0) where
+  pub track_list : tape_lists t 0 ≡ list_on (Some t)
+  track_list = ap (λ n. cond (nat_lt 0 n) (messages_of 0 t.bytes.items 0) []) (t.single refl)
 
-pub fits_found : (ts : List Track) (g n : ℕ) (t : Track) → fits_on (slice_get ts g) n ≡ true → t ≡ get_or ts g t
-    → slice_get ts g ≡ Some t
-fits_found ts g n t e is = slice_get_read ts (length ts) g t refl (fits_within ts g n e) is
+  pub track_space : (n : ℕ) → tape_fits t 0 n ≡ fits_on (Some t) n
+  track_space n = ap (λ k. nat_lt 0 k && has_space 0 (length t.bytes.items) t.size n) (t.single refl)
 
--- tracks that are empty, with buffers of so many bytes
-abbrev pub EmptyTrack : ℕ → Track → Type 0
-EmptyTrack size t = (t.bytes.items ≡ []) × (t.size ≡ size)
+-- tracks that are fresh, each by itself
+pub fresh_tracks : (s : Tracks) (groups size : ℕ) → length s.tracks.items ≡ groups
+    → All (Fresh tape_lists tape_fits 1 (has_space 0 0 size)) s.tracks.items → Fresh track_lists track_fits groups (has_space 0 0 size) s
+fresh_tracks s groups size many fresh = record {
+  none = λ g. elim (slice_get_cases s.tracks.items g).1 [
+    | inl (t, l, is, at) ↦ ap list_on is ∙ sym (track_list t) ∙ subst (λ x. tape_lists x 0 ≡ []) at ((fresh g t l).none 0)
+    | inr (l, is) ↦ ap list_on is
+  ];
+  empty = λ g n. elim (slice_get_cases s.tracks.items g).1 [
+    | inl (t, l, is, at) ↦ ap (λ o. fits_on o n) is ∙ sym (track_space t n)
+        ∙ subst (λ x. tape_fits x 0 n ≡ has_space 0 0 size n) at ((fresh g t l).empty 0 n)
+        ∙ ap (λ b. b && has_space 0 0 size n) (sym (lt-ltb g groups (omega arith)))
+    | inr (l, is) ↦ ap (λ o. fits_on o n) is ∙ ap (λ b. b && has_space 0 0 size n) (sym (le-ltb g groups (omega arith)))
+  ];
+}
 
-pub empty_lists : (size : ℕ) (ts : List Track) → AllByRecursion (EmptyTrack size) ts → (g : ℕ) → list_on (slice_get ts g) ≡ []
-empty_lists size [] es g = refl
-empty_lists size (t ∷ ts) es zero = ap (λ bs. messages_of 0 bs 0) es.0.0 ∙ messages_none 0 0
-empty_lists size (t ∷ ts) es (suc g) = empty_lists size ts es.1 g
-
-empty_fits : (size : ℕ) (ts : List Track) → AllByRecursion (EmptyTrack size) ts → (g n : ℕ) → g < length ts
-    → fits_on (slice_get ts g) n ≡ has_space 0 0 size n
-empty_fits size [] es g n l = absurd (omega arith)
-empty_fits size (t ∷ ts) es zero n l = ap₂ (λ used size. has_space 0 used size n) (ap length es.0.0) es.0.1
-empty_fits size (t ∷ ts) es (suc g) n l = empty_fits size ts es.1 g n (omega arith)
-
-pub empty_space : (size : ℕ) (ts : List Track) → AllByRecursion (EmptyTrack size) ts → (groups : ℕ) → length ts ≡ groups
-    → (g n : ℕ) → fits_on (slice_get ts g) n ≡ (ltb g groups && has_space 0 0 size n)
-empty_space size ts es groups many g n =
+-- what holds of the new element and the old one at their place, and of each other element and itself, holds everywhere
+pub at_set : {X : Type 0} (P : Bool → Option X → Option X → Type 0) (xs : List X) (i : ℕ) (x y : X) → slice_get xs i ≡ Some x
+    → P true (Some y) (Some x) → ((o : Option X) → P false o o) → (j : ℕ) → P (i == j) (slice_get (set xs i y) j) (slice_get xs j)
+at_set P xs i x y e p q j =
+    let within = slice_get_within xs i x e in
+    let new : slice_get (set xs i y) i ≡ Some y = grind (arith, common_steps, gets) in
     ⊎_elim
-    (λ l. empty_fits size ts es g n (omega arith) ∙ ap (λ b. b && has_space 0 0 size n) (sym (lt-ltb g groups l)))
-    (λ l. ap (λ t. fits_on t n) (slice_get_past ts g (omega arith))
-    ∙ ap (λ b. b && has_space 0 0 size n) (sym (le-ltb g groups l)))
-    (cases_lt g groups)
+    (λ s. subst (λ k. P (i == k) (slice_get (set xs i y) k) (slice_get xs k)) s (rw (eq-eqb i i refl) (rw new (rw e p))))
+    (λ ne. let old : slice_get (set xs i y) j ≡ slice_get xs j = grind (arith, common_steps, gets) in
+    rw (ne_eqb i j ne) (rw old (q (slice_get xs j)))) (cases_eq i j)
 
-nth_set_same : {X : Type 0} (xs : List X) (i : ℕ) (x y : X) → slice_get xs i ≡ Some x → slice_get (set xs i y) i ≡ Some y
-nth_set_same [] i x y e = absurd (let z : ◌≡◌ {A = ℕ} 0 1 = cc in omega arith)
-nth_set_same (z ∷ xs) zero x y e = refl
-nth_set_same (z ∷ xs) (suc i) x y e = nth_set_same xs i x y e
+-- an element that is written back
+pub restored : {X : Type 0} (v : Vec X Global) (i : ℕ) (x : X) → x ≡ get_or v.items i x → with_item v i x ≡ v
+restored v i x e =
+    let same : set v.items i x ≡ v.items = ap (set v.items i) e ∙ set-get_or v.items i x in
+    let pairs : ◌≡◌ {A = (xs : List _) × ((v.len ≡ length xs) × (v.len ≤ v.cap))} (set v.items i x, (with_item v i x).ok) (v.items, v.ok) = Σ_prop_path (λ xs. Prim.hlevel props) same in
+    λ k. record { ptr = v.ptr; len = v.len; cap = v.cap; alloc = v.alloc; items = (pairs k).0; ok = (pairs k).1; small = v.small }
 
-nth_set_other : {X : Type 0} (xs : List X) (i j : ℕ) (y : X) → (i ≡ j → ⊥) → slice_get (set xs i y) j ≡ slice_get xs j
-nth_set_other [] i j y ne = refl
-nth_set_other (x ∷ xs) zero zero y ne = absurd (ne refl)
-nth_set_other (x ∷ xs) zero (suc j) y ne = refl
-nth_set_other (x ∷ xs) (suc i) zero y ne = refl
-nth_set_other (x ∷ xs) (suc i) (suc j) y ne = nth_set_other xs i j y (λ e. ne (ap suc e))
-
-mapped_same : {X : Type 0} (o : Option X) → o ≡ option_map (λ x. x) o
+pub mapped_same : {X : Type 0} (o : Option X) → o ≡ option_map (λ x. x) o
 mapped_same None = refl
 mapped_same (Some x) = refl
 
--- the track t of group g has become u, by a record of the message m at the end
-module _ (ts : List Track) (g : ℕ) (t u : Track) (m : List ℕ) (here : slice_get ts g ≡ Some t) (sized : Sized (length m))
-    (grew : track_buffer u ≡ with_record 0 (record { group = 0; message = m }) (track_buffer t)) where
-  abbrev e : Entry
-  e = record { group = 0; message = m }
-
-  pub lists_set : (h : ℕ) → list_on (slice_get (set ts g u) h) ≡ list_on (slice_get ts h) ++ cond (eqb g h) (m ∷ []) []
-  lists_set h =
-      ⊎_elim
-      (λ q. ap list_on (ap (slice_get (set ts g u)) (sym q) ∙ nth_set_same ts g t u here)
-      ∙ ap (λ b. messages_of 0 b.used 0) grew
-      ∙ messages_more 0 (omega arith) t.bytes.items t.whole 0 e (record { placed = refl; sized = sized })
-      ∙ ap₂ (λ o b. list_on o ++ cond b (m ∷ []) []) (sym here ∙ ap (slice_get ts) q) (sym (eq-eqb g h q)))
-      (λ q. ap list_on (nth_set_other ts g h u q) ∙ sym (append-nil (list_on (slice_get ts h)))
-      ∙ ap (λ b. list_on (slice_get ts h) ++ cond b (m ∷ []) []) (sym (ne_eqb g h q)))
-      (cases_eq g h)
-
-  pub left_set : (h : ℕ) → option_map track_buffer (slice_get (set ts g u) h)
-      ≡ option_map (λ b. cond (eqb g h) (with_record 0 e b) b) (option_map track_buffer (slice_get ts h))
-  left_set h =
-      ⊎_elim
-      (λ q. ap (option_map track_buffer) (ap (slice_get (set ts g u)) (sym q) ∙ nth_set_same ts g t u here)
-      ∙ ap Some grew
-      ∙ ap₂ (λ o c. option_map (λ b. cond c (with_record 0 e b) b) (option_map track_buffer o)) (sym here ∙ ap (slice_get ts) q)
-      (sym (eq-eqb g h q)))
-      (λ q. ap (option_map track_buffer) (nth_set_other ts g h u q) ∙ mapped_same _
-      ∙ ap (λ c. option_map (λ b. cond c (with_record 0 e b) b) (option_map track_buffer (slice_get ts h))) (sym (ne_eqb g h q)))
-      (cases_eq g h)
+pub none_more : {X : Type 0} (r : Bool) (xs ys : List X) → xs ≡ xs ++ (if r && false then ys else [])
+none_more true xs ys = sym (append-nil xs)
+none_more false xs ys = sym (append-nil xs)

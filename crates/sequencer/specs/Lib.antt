@@ -1,11 +1,6 @@
-pub mod Indexes
+pub mod Bounds
 pub mod Lists
 pub mod Places
 pub mod Records
 pub mod Tapes
 pub mod Tracks
-pub mod TrackBounds
-pub mod Space
-pub mod PlacesLemmas
-pub mod Decoding
-pub mod TapeBounds

@@ -2,26 +2,23 @@
 use Rattle.std.specs.Prelude.{◌≡◌, ℕ, Bool, false, cond, List, [], length, Some, None, vec_items, Option, ◌==◌}
 use Rattle.std.specs.Option.{option_map}
 use Rattle.std.specs.List.{slice_get}
-use Rattle.sequencer.specs.Records.{Buffer, has_space, messages_of, with_record}
-use Rattle.sequencer.specs.declared.track.Track.{Track}
+use Rattle.sequencer.specs.Records.{has_space, messages_of, with_record}
+use Rattle.sequencer.specs.Tapes.{tape_buffer}
+use Rattle.sequencer.specs.declared.records.Records.{Records}
 use Rattle.sequencer.specs.declared.tracks.Tracks.{Tracks}
 
--- a track's buffer
-abbrev pub track_buffer : Track → Buffer
-track_buffer t = record { used = vec_items t.bytes; size = t.size }
-
 -- the messages on a track, none where there is no track
-abbrev pub list_on : Option Track → List (List ℕ)
+abbrev pub list_on : Option (Records 0) → List (List ℕ)
 list_on None = []
 list_on (Some t) = messages_of 0 (vec_items t.bytes) 0
 
 -- whether a message of n bytes fits a track, not where there is no track
-abbrev pub fits_on : Option Track → ℕ → Bool
+abbrev pub fits_on : Option (Records 0) → ℕ → Bool
 fits_on None n = false
 fits_on (Some t) n = has_space 0 (length (vec_items t.bytes)) t.size n
 
 -- the track of a group
-abbrev pub track_of : Tracks → ℕ → Option Track
+abbrev pub track_of : Tracks → ℕ → Option (Records 0)
 track_of s g = slice_get (vec_items s.tracks) g
 
 -- the messages of a group
@@ -36,5 +33,5 @@ track_fits s g n = fits_on (track_of s g) n
 abbrev pub TracksLeft : Tracks → ℕ → List ℕ → Tracks → Type 0
 TracksLeft s g m s' =
     let grown = with_record 0 (record { group = 0; message = m }) in
-    (h : ℕ) → option_map track_buffer (track_of s' h)
-    ≡ option_map (λ b. cond (g == h) (grown b) b) (option_map track_buffer (track_of s h))
+    (h : ℕ) → option_map tape_buffer (track_of s' h)
+    ≡ option_map (λ b. cond (g == h) (grown b) b) (option_map tape_buffer (track_of s h))

@@ -8,20 +8,22 @@
 
 #![tactic(auto)]
 
-ghost use Rattle.std.specs.Prelude.{◌≡◌, ℕ, Bool, true, false, ◌&&◌, List, [], ◌∷◌, ◌++◌, length, if◌then◌else◌, ◌==◌};
+ghost use Rattle.std.specs.Prelude.{◌≡◌, ℕ, Bool, true, false, ◌&&◌, List, [], ◌∷◌, ◌++◌, length, is_ok, if◌then◌else◌, ◌==◌};
 ghost use Rattle.std.specs.Option.{option_map};
 ghost use Rattle.std.specs.List.{slice_get};
 ghost use Rattle.sequencer.specs.Lists.{Bounds, copied_to, is_nil};
 
 use envelope::message::LARGEST_MESSAGE;
 
-mod index;
 mod records;
 pub mod tape;
 #[cfg(test)]
 mod tests;
-mod track;
 pub mod tracks;
+
+/// A message that does not fit its group's list: the list stays as it was.
+#[derive(Clone, Copy, PartialEq, Eq, Debug, Drop)]
+pub struct DoesNotFit;
 
 /// Keeps a list of messages for each group.
 pub trait Sequencer {
@@ -34,12 +36,12 @@ pub trait Sequencer {
     // What is left of the sequencer by a message to a group: each kind of sequencer's own.
     ghost leaves: { Self → ℕ → List ℕ → Self → Type 0 };
 
-    /// Appends the message to the group's list if it fits, and answers whether it did. Otherwise nothing changes.
-    fn post(&mut self, group: u8, message: &[u8]) -> bool
-        ensures answer { result ≡ fits self.old group (length message.now) }
-        ensures appends { (g : ℕ) → lists self.new g ≡ lists self.old g ++ (if result && group == g then message.now ∷ [] else []) }
-        ensures same { result ≡ false → self.new ≡ self.old }
-        ensures left { result ≡ true → leaves self.old group message.now self.new };
+    /// Appends the message to the group's list if it fits. Otherwise it is refused, and nothing changes.
+    fn post(&mut self, group: u8, message: &[u8]) -> Result<(), DoesNotFit>
+        ensures answer { is_ok result ≡ fits self.old group (length message.now) }
+        ensures appends { (g : ℕ) → lists self.new g ≡ lists self.old g ++ (if is_ok result && group == g then message.now ∷ [] else []) }
+        ensures same { is_ok result ≡ false → self.new ≡ self.old }
+        ensures left { is_ok result ≡ true → leaves self.old group message.now self.new };
 
     /// Copies message `index` of the group's list, counted from 0, to the front of `out`, and answers its length; or
     /// none where the list has no such message. The bytes beyond the message stay.

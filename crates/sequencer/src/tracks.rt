@@ -1,19 +1,31 @@
 // Tracks: a buffer for each group.
 ghost use Rattle.std.specs.Prelude.{◌≡◌, length, IfOk};
+ghost use Rattle.std.specs.List.{All};
 ghost use Rattle.sequencer.specs.Lists.{Fresh};
 ghost use Rattle.sequencer.specs.Records.{has_space};
+ghost use Rattle.sequencer.specs.Tapes.{tape_fits, tape_lists};
 ghost use Rattle.sequencer.specs.Tracks.{TracksLeft, track_fits, track_lists};
-ghost use Rattle.sequencer.specs.TrackBounds.{track_bounds};
+ghost use Rattle.sequencer.specs.Bounds.{track_bounds};
 
-use crate::Sequencer;
-use crate::track::Track;
+use crate::records::Records;
+use crate::{DoesNotFit, Sequencer};
 use envelope::message::LARGEST_MESSAGE;
 use std::alloc::{AllocError, Global};
 
 /// A sequencer with a buffer for each group, in which a message takes its length and two bytes more.
 #[derive(Drop)]
 pub struct Tracks {
-    tracks: Vec<Track>,
+    tracks: Vec<Records<0>>,
+}
+
+// So many empty tracks, with buffers of `size` bytes.
+fn empty_tracks(heap: Global, groups: u8, size: usize) -> Result<Vec<Records<0>>, AllocError>
+    ensures len { IfOk result (λ v. length v.items ≡ groups) }
+    ensures empty { IfOk result (λ v. All (Fresh tape_lists tape_fits 1 (has_space 0 0 size)) v.items) }
+{
+    (0..groups)
+        .map(|_| Records::empty(heap, 1, size))
+        .try_collect(heap)
 }
 
 impl Tracks {
@@ -21,19 +33,8 @@ impl Tracks {
     pub fn new(heap: Global, groups: u8, size: usize) -> Result<Tracks, AllocError>
         ensures { IfOk result (Fresh track_lists track_fits groups (has_space 0 0 size)) }
     {
-        let mut tracks = Vec::with_capacity(heap, groups as usize)?;
-        for _ in 0..groups {
-            tracks.push(Track::new(heap, size)?)?;
-        }
+        let tracks = empty_tracks(heap, groups, size)?;
         Ok(Tracks { tracks })
-    }
-
-    // Whether a message of `len` bytes to the group fits.
-    fn has_space(&self, group: u8, len: usize) -> bool
-        ensures { result ≡ track_fits self.now group len }
-    {
-        let at = group as usize;
-        at < self.tracks.len() && self.tracks[at].has_space(len)
     }
 }
 
@@ -46,25 +47,20 @@ impl Sequencer for Tracks {
 
     ghost bounds = { track_bounds };
 
-    fn post(&mut self, group: u8, message: &[u8]) -> bool {
-        if !self.has_space(group, message.len()) {
-            return false;
-        }
-        self.tracks[group as usize].append(message);
-        true
+    fn post(&mut self, group: u8, message: &[u8]) -> Result<(), DoesNotFit> {
+        self.tracks
+            .get_mut(group as usize)
+            .ok_or(DoesNotFit)?
+            .post(0, message)
     }
 
     fn message(&self, group: u8, index: u64, out: &mut [u8; LARGEST_MESSAGE]) -> Option<usize> {
-        let at = group as usize;
-        if at < self.tracks.len() {
-            self.tracks[at].message(index, out)
-        } else {
-            None
-        }
+        self.tracks.get(group as usize)?.message(0, index, out)
     }
 
     fn is_empty(&self, group: u8) -> bool {
-        let at = group as usize;
-        at >= self.tracks.len() || self.tracks[at].is_empty()
+        self.tracks
+            .get(group as usize)
+            .is_none_or(|track| track.is_empty(0))
     }
 }

@@ -1,42 +1,38 @@
-use Rattle.std.proofs.Common.{◌≡◌, ℕ, length, sym, ap, ◌∙◌, arith}
-use Rattle.std.proofs.lemmas.Bool.{true≢false}
+use Rattle.std.proofs.Common.{◌≡◌, ℕ, true, ◌<◌, cond, ◌&&◌, if◌then◌else◌, List, [], ◌∷◌, ◌++◌, length, get_or, Some, arith, ap, ◌∙◌, sym, subst}
+use Rattle.std.proofs.lemmas.Grind.{common_steps}
+use Rattle.std.proofs.lemmas.Option.{gets, slice_get_read}
+use Rattle.std.specs.List.{slice_get}
+use Rattle.std.specs.Option.{option_map}
+use Rattle.std.specs.Result.{is_ok}
 use Rattle.sequencer.specs.Records.{with_record}
-use Rattle.sequencer.specs.Tracks.{fits_on, track_buffer}
-use Rattle.sequencer.specs.Space.{spacious}
-use Rattle.sequencer.proofs.Racks.{fits_found, fits_within, left_set, lists_set}
+use Rattle.sequencer.specs.Tapes.{tape_buffer}
+use Rattle.sequencer.specs.Tracks.{list_on}
+use Rattle.sequencer.proofs.Racks.{at_set, mapped_same, none_more, restored, track_list}
 use Rattle.sequencer.proofs.tracks.TracksSequencer.post.Goals as goal
 
-pub index_mut-requires : goal.index_mut-requires
-index_mut-requires c =
-    let v = c.args.self.now.tracks in
-    let fits = sym c.if-not-has_space.ensures in
-    omega (arith, v.ok.0, fits_within v.items c.args.group (length c.args.message.now) fits)
-
-pub append-requires : goal.append-requires
-append-requires c =
+pub returns-clause-appends : goal.returns-clause-appends
+returns-clause-appends c =
     let ts = c.args.self.now.tracks.items in
-    let n : ℕ = length c.args.message.now in
-    let fits = sym c.if-not-has_space.ensures in
-    let here = fits_found ts c.args.group n c.index_mut.result.now fits c.index_mut.ensures.value in
-    sym (ap (λ t. fits_on t n) here) ∙ fits
-
-pub returns : goal.returns
-returns c =
-    let ts = c.args.self.now.tracks.items in
-    let t = c.index_mut.result.now in
-    let u = c.append.new.self in
+    let t = c.in_ok-ok_or.field-0.now in
+    let u = c.post.new.self in
     let m = c.args.message.now in
-    let fits = sym c.if-not-has_space.ensures in
-    let here = fits_found ts c.args.group (length m) t fits c.index_mut.ensures.value in
-    let space = sym (ap (λ x. fits_on x (length m)) here) ∙ fits in
-    let sized = (spacious 0 (length t.bytes.items) t.size (length m) space).sized in
-    let bytes = c.append.ensures.bytes in
-    let size = c.append.ensures.size in
-    let grew : track_buffer u ≡ with_record 0 (record { group = 0; message = m }) (track_buffer t) =
-    λ i. record { used = bytes i; size = size i } in
-    record {
-      answer = c.if-not-has_space.ensures;
-      appends = lists_set ts c.args.group t u m here sized grew;
-      same = λ e. absurd (true≢false e);
-      left = λ _. left_set ts c.args.group t u m here sized grew;
-    }
+    let here : slice_get ts c.args.group ≡ Some t = grind (arith, common_steps, gets) in
+    at_set (λ b n o. list_on n ≡ list_on o ++ (if is_ok c.post.result && b then m ∷ [] else [])) ts c.args.group t u here
+    (sym (track_list u) ∙ c.post.ensures.appends 0 ∙ ap (λ ms. ms ++ (if is_ok c.post.result && true then m ∷ [] else [])) (track_list t))
+    (λ o. none_more (is_ok c.post.result) (list_on o) (m ∷ []))
+
+pub returns-clause-same : goal.returns-clause-same
+returns-clause-same c = λ no.
+    let u = c.post.new.self in
+    let same = c.post.ensures.same no in
+    let was : u ≡ get_or c.args.self.now.tracks.items c.args.group u = grind (arith, common_steps, same) in
+    λ i. record { tracks = restored c.args.self.now.tracks c.args.group u was i }
+
+pub returns-clause-left : goal.returns-clause-left
+returns-clause-left c = λ yes.
+    let ts = c.args.self.now.tracks.items in
+    let t = c.in_ok-ok_or.field-0.now in
+    let here : slice_get ts c.args.group ≡ Some t = grind (arith, common_steps, gets) in
+    let grown = with_record 0 (record { group = 0; message = c.args.message.now }) in
+    at_set (λ b n o. option_map tape_buffer n ≡ option_map (λ x. cond b (grown x) x) (option_map tape_buffer o)) ts c.args.group t c.post.new.self here
+    (ap Some (c.post.ensures.left yes).0) (λ o. mapped_same (option_map tape_buffer o))

@@ -1,0 +1,128 @@
+-- Records, by the index of each group.
+use Rattle.std.proofs.Common.{◌≡◌, ℕ, zero, suc, ◌+◌, ◌*◌, ◌/◌, ◌<◌, ◌≤◌, Bool, true, false, cond, List, [], ◌∷◌, ◌++◌, map, length, get_or, take, set, Some, None, ◌≢◌, ◌==◌, nat_lt, slice_index, sym, refl, ap, ◌∙◌, subst, ⊎_elim, Vec, Global, vec_items, vec_len, vec_capacity, arith, length-set}
+use Rattle.std.specs.Option.{option_map}
+use Rattle.std.specs.List.{AllByRecursion, slice_get}
+use Rattle.std.proofs.ByRecursion.{All-get_or}
+use Rattle.std.proofs.Math.Nat.{le-div_iff_mul-le}
+use Rattle.std.proofs.lemmas.List.{append-nil, get_or-set_other, get_or-set_same}
+use Rattle.std.proofs.lemmas.Bool.{and_parts, cases_eq, cond-true, cond-false, eq-eqb, eqb-true, false≢true, le-ltb, lt-ltb, ltb-true, ne_eqb}
+use Rattle.std.proofs.lemmas.Option.{slice_get-map, slice_get_past, slice_get_read}
+use Rattle.sequencer.specs.Places.{Starts, message_at, starts_of}
+use Rattle.sequencer.specs.Records.{OnlyRecords, entries, messages_of, record_of, record_size}
+use Rattle.sequencer.specs.Tapes.{TapeLeft, groups_of, tape_fits, tape_lists}
+use Rattle.sequencer.specs.Bounds.{Proper, Spacious, spacious}
+use Rattle.sequencer.specs.declared.records.Records.{Records}
+use Rattle.sequencer.proofs.Decoding.{only_more}
+use Rattle.sequencer.proofs.Starting.{count_starts, messages_at, messages_more, starts_in_place, starts_more}
+
+-- no bytes store nothing
+pub only_none : (lead : ℕ) → OnlyRecords lead []
+unfolding entries
+only_none lead = refl
+
+pub starts_none : (lead g : ℕ) → starts_of lead [] g ≡ []
+unfolding entries
+starts_none lead g = refl
+
+pub messages_none : (lead g : ℕ) → messages_of lead [] g ≡ []
+unfolding entries
+messages_none lead g = refl
+
+-- what holds of each element and its place still does after one of them has become y
+pub each_set : {X : Type 0} (P : ℕ → X → Type 0) (xs : List X) (g : ℕ) (y : X) → g < length xs → P g y
+    → ((h : ℕ) (d : X) → h < length xs → (h ≢ g) → P h (get_or xs h d))
+    → (h : ℕ) (d : X) → h < length (set xs g y) → P h (get_or (set xs g y) h d)
+each_set P xs g y within p ps h d l =
+    ⊎_elim
+    (λ q. subst (λ k. P k (get_or (set xs g y) k d)) (sym q) (subst (P g) (sym (get_or-set_same xs g y d within)) p))
+    (λ q. subst (P h) (sym (get_or-set_other xs g h y d q)) (ps h d (omega (arith, l, length-set xs g y)) q))
+    (cases_eq h g)
+
+-- a group that there is can be told by its label
+placed : (lead g n : ℕ) → lead ≤ 1 → (lead ≡ 0 → n ≡ 1) → g < n → slice_index (take lead (g ∷ [])) 0 ≡ g
+placed zero g n low single within = omega (arith, single refl)
+placed (suc zero) g n low single within = refl
+placed (suc (suc k)) g n low single within = absurd (omega arith)
+
+-- a list that is there grew, and one that is not did not
+list_more : {X : Type 0} (b c : Bool) (xs xs' ys : List X) → (c ≡ true → b ≡ true) → xs' ≡ xs ++ cond c ys []
+    → cond b xs' [] ≡ cond b xs [] ++ cond c ys []
+list_more true c xs xs' ys there e = e
+list_more false true xs xs' ys there e = absurd (false≢true (there refl))
+list_more false false xs xs' ys there e = refl
+
+module _ {lead : ℕ} (t : Records lead) (g : ℕ) where
+  -- a message that fits
+  module _ (m : List ℕ) (fits : tape_fits t g (length m) ≡ true) where
+    pub group_within : g < length t.indexes.items
+    group_within = ltb-true _ _ (and_parts (nat_lt g (groups_of t)) _ fits).0
+
+    pub space : Spacious lead (length t.bytes.items) t.size (length m)
+    space = spacious lead _ _ _ (and_parts (nat_lt g (groups_of t)) _ fits).1
+
+    proper : Proper lead (record { group = g; message = m })
+    proper = record { placed = placed lead g _ t.lead t.single group_within; sized = space.sized }
+
+    -- the bytes with its record
+    module _ (bs : List ℕ) (is : bs ≡ t.bytes.items ++ record_of lead (record { group = g; message = m })) where
+      pub whole_more : OnlyRecords lead bs
+      whole_more = subst (OnlyRecords lead) (sym is) (only_more lead t.lead t.bytes.items t.whole _ proper)
+
+      each_more : (h : ℕ) → starts_of lead bs h ≡ starts_of lead t.bytes.items h ++ cond (g == h) (length t.bytes.items ∷ []) []
+      each_more h = ap (λ l. starts_of lead l h) is ∙ starts_more lead t.lead t.bytes.items t.whole h _ proper
+
+      pub own_more : starts_of lead t.bytes.items g ++ length t.bytes.items ∷ [] ≡ starts_of lead bs g
+      own_more = sym (each_more g ∙ ap (λ b. starts_of lead t.bytes.items g ++ cond b (length t.bytes.items ∷ []) []) (eq-eqb g g refl))
+
+      pub others_more : (h : ℕ) → (h ≢ g) → starts_of lead t.bytes.items h ≡ starts_of lead bs h
+      others_more h ne =
+          sym (each_more h ∙ ap (λ b. starts_of lead t.bytes.items h ++ cond b (length t.bytes.items ∷ []) []) (ne_eqb g h (λ q. ne (sym q)))
+          ∙ append-nil (starts_of lead t.bytes.items h))
+
+    -- each list has the messages that it had, and its own at the end
+    pub lists_more : (t' : Records lead) → TapeLeft t g m t'
+        → (h : ℕ) → tape_lists t' h ≡ tape_lists t h ++ cond (g == h) (m ∷ []) []
+    lists_more t' left h =
+        ap (λ n. cond (nat_lt h n) (messages_of lead t'.bytes.items h) []) left.1
+        ∙ list_more (nat_lt h (groups_of t)) (g == h) _ _ _
+        (λ q. subst (λ k. nat_lt k (groups_of t) ≡ true) (eqb-true g h q) (lt-ltb _ _ group_within))
+        (ap (λ b. messages_of lead b.used h) left.0 ∙ messages_more lead t.lead t.bytes.items t.whole h _ proper)
+
+  -- a group that there is not
+  pub listed_none : length t.indexes.items ≤ g → tape_lists t g ≡ []
+  listed_none l = cond-false _ _ _ (le-ltb _ _ l)
+
+  -- the index i of a group that there is
+  module _ (i : Vec ℕ Global) (is : i ≡ get_or t.indexes.items g i) (within : g < length t.indexes.items) where
+    pub indexed : vec_items i ≡ starts_of lead t.bytes.items g
+    indexed = ap vec_items is ∙ t.indexed g i within
+
+    pub room : (m : List ℕ) → tape_fits t g (length m) ≡ true → vec_len i < vec_capacity i
+    room m fits =
+        let s = space m fits in
+        let one : ℕ = record_size lead 1 in
+        let some : 0 < one = omega arith in
+        let used : one * vec_len i ≤ length t.bytes.items =
+        subst (λ n. one * n ≤ length t.bytes.items) (sym (i.ok.0 ∙ ap length indexed)) (count_starts lead t.lead t.bytes.items t.whole g) in
+        let more : suc (vec_len i) ≤ t.size / one = (le-div_iff_mul-le some).1 (omega (arith, used, s.inside, s.sized.0)) in
+        omega (arith, more, ap vec_capacity is, t.limit g i within)
+
+    pub listed : tape_lists t g ≡ map (message_at lead t.bytes.items) i.items
+    listed =
+        cond-true _ _ _ (lt-ltb _ _ within) ∙ messages_at lead t.lead t.bytes.items t.whole g
+        ∙ ap (map (message_at lead t.bytes.items)) (sym indexed)
+
+    pub numbered_past : (n : ℕ) → length i.items ≤ n → slice_get (tape_lists t g) n ≡ None
+    numbered_past n l =
+        ap (λ ms. slice_get ms n) listed ∙ slice_get-map _ i.items n ∙ ap (option_map _) (slice_get_past i.items n l)
+
+    module _ (n p : ℕ) (at : p ≡ get_or i.items n p) (l : n < length i.items) where
+      pub numbered : slice_get (tape_lists t g) n ≡ Some (message_at lead t.bytes.items p)
+      numbered =
+          ap (λ ms. slice_get ms n) listed ∙ slice_get-map _ i.items n
+          ∙ ap (option_map _) (slice_get_read i.items _ n p refl l at)
+
+      pub started : Starts lead t.bytes.items p
+      started =
+          let all = subst (AllByRecursion (Starts lead t.bytes.items)) (sym indexed) (starts_in_place lead t.lead t.bytes.items t.whole g) in
+          subst (Starts lead t.bytes.items) (sym at) (All-get_or (Starts lead t.bytes.items) i.items n p l all)

@@ -1,5 +1,5 @@
 -- Records, by the index of each group.
-use Rattle.std.proofs.Common.{◌≡◌, ℕ, zero, suc, ◌+◌, ◌*◌, ◌/◌, ◌<◌, ◌≤◌, Bool, true, false, cond, List, [], ◌∷◌, ◌++◌, map, length, get_or, take, set, Some, None, ◌≢◌, ◌==◌, nat_lt, slice_index, sym, refl, ap, ◌∙◌, subst, ⊎_elim, Vec, Global, vec_items, vec_len, vec_capacity, arith, length-set}
+use Rattle.std.proofs.Common.{◌≡◌, ℕ, zero, suc, ◌*◌, ◌/◌, ◌<◌, ◌≤◌, Bool, true, false, cond, List, [], ◌∷◌, ◌++◌, map, length, get_or, take, set, Some, None, ◌≢◌, ◌==◌, nat_lt, slice_index, sym, refl, ap, ◌∙◌, subst, ⊎_elim, Vec, Global, vec_items, vec_len, vec_capacity, arith, length-set}
 use Rattle.std.specs.Option.{option_map}
 use Rattle.std.specs.List.{AllByRecursion, slice_get}
 use Rattle.std.proofs.ByRecursion.{All-get_or}

@@ -1,5 +1,5 @@
 -- A track among the tracks, and another in its place.
-use Rattle.std.proofs.Common.{◌≡◌, ℕ, zero, suc, ◌<◌, ◌≤◌, Bool, true, false, cond, ◌&&◌, ◌==◌, if◌then◌else◌, List, [], ◌∷◌, ◌++◌, length, get_or, set, Some, None, Option, nat_lt, sym, refl, ap, ◌∙◌, subst, inl, inr, ⊎_elim, Vec, Global, arith}
+use Rattle.std.proofs.Common.{◌≡◌, ℕ, ◌≤◌, Bool, true, false, cond, ◌&&◌, ◌==◌, if◌then◌else◌, List, [], ◌++◌, length, get_or, set, Some, None, Option, nat_lt, sym, refl, ap, ◌∙◌, subst, inl, inr, ⊎_elim, Vec, Global, arith}
 use Rattle.std.proofs.Props.{props}
 use Rattle.std.proofs.lemmas.Grind.{common_steps}
 use Rattle.std.specs.Option.{option_map}

@@ -5,7 +5,7 @@ use Rattle.std.proofs.lemmas.List.{drop_at, length-map}
 use Rattle.envelope.specs.Messages.{largest_message}
 use Rattle.sequencer.specs.Places.{Starts, message_at, starts_from, starts_of}
 use Rattle.sequencer.specs.Records.{Entry, OnlyRecords, entries, first, messages_of, of_group, record_of, record_size, said_length}
-use Rattle.sequencer.specs.Bounds.{Proper, Spacious, fewer, proper_entries, spacious}
+use Rattle.sequencer.specs.Bounds.{Proper, fewer, proper_entries, spacious}
 use Rattle.sequencer.proofs.Decoding.{begins_of, entries_more, first_of, length_record, many}
 
 -- a filter goes on at the end of a list

@@ -64,8 +64,8 @@ impl<const LEAD: usize> Records<LEAD> {
     ghost use Rattle.sequencer.specs.Lists.{Fresh};
     ghost use Rattle.sequencer.specs.Tapes.{TapeLeft, tape_fits, tape_lists};
 
-    /// No messages, of `groups` groups, with a buffer of `size` bytes.
-    pub fn empty(heap: Global, groups: u8, size: usize) -> Result<Records<LEAD>, AllocError>
+    // No messages, of `groups` groups, with a buffer of `size` bytes.
+    pub(crate) fn empty(heap: Global, groups: u8, size: usize) -> Result<Records<LEAD>, AllocError>
         requires lead { LEAD ≤ 1 }
         requires single { LEAD ≡ 0 → groups ≡ 1 }
         ensures { IfOk result (Fresh tape_lists tape_fits groups (has_space LEAD 0 size)) }
@@ -106,7 +106,7 @@ impl<const LEAD: usize> Records<LEAD> {
         ensures copied { out.new ≡ overlaid out.old 0 (message_at LEAD self.now.bytes.items start) }
     {
         let at = start + LEAD;
-        let len = self.bytes[at] as usize * 256 + self.bytes[at + 1] as usize;
+        let len = u16::from_be_bytes([self.bytes[at], self.bytes[at + 1]]) as usize;
         put(out, 0, &self.bytes[at + 2..at + 2 + len]);
         len
     }
@@ -138,8 +138,6 @@ impl<const LEAD: usize> Sequencer for Records<LEAD> {
     }
 
     fn is_empty(&self, group: u8) -> bool {
-        self.indexes
-            .get(group as usize)
-            .is_none_or(|starts| starts.is_empty())
+        self.indexes.get(group as usize).is_none_or(Vec::is_empty)
     }
 }

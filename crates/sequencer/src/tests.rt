@@ -2,9 +2,9 @@
 ghost use Rattle.std.specs.Prelude.{IsOk, length};
 ghost use Rattle.sequencer.specs.Lists.{Sized};
 
-use crate::{DoesNotFit, Sequencer};
 use crate::tape::Tape;
 use crate::tracks::Tracks;
+use crate::{DoesNotFit, Sequencer};
 use envelope::message::LARGEST_MESSAGE;
 use std::test::Fail;
 

@@ -1,4 +1,4 @@
-use Rattle.std.proofs.Common.{◌≡◌, ◌/◌, ◌≤◌, ◌++◌, ◌∷◌, [], vec_items, vec_capacity, arith, ap, ap₂, ◌∙◌, sym, subst}
+use Rattle.std.proofs.Common.{◌≡◌, ◌/◌, ◌≤◌, ◌++◌, ◌∷◌, [], vec_items, vec_capacity, arith, ap, ap₂, ◌∙◌}
 use Rattle.sequencer.specs.Places.{starts_of}
 use Rattle.sequencer.specs.Records.{record_size}
 use Rattle.sequencer.proofs.Groups.{each_set, group_within, indexed, room, whole_more, own_more, others_more}

@@ -1,4 +1,4 @@
-use Rattle.std.proofs.Common.{◌≡◌, ◌/◌, cond, ◌&&◌, ltb, [], map, length, sym, refl, ap, ◌∙◌, subst, ap₂}
+use Rattle.std.proofs.Common.{◌≡◌, cond, ◌&&◌, ltb, [], length, sym, refl, ap, ◌∙◌, subst, ap₂}
 use Rattle.std.proofs.lemmas.Bool.{cond_both}
 use Rattle.sequencer.specs.Records.{OnlyRecords, has_space, messages_of}
 use Rattle.sequencer.specs.Places.{starts_of}

@@ -1,6 +1,5 @@
-use Rattle.std.proofs.Common.{rules, arith, ap, ◌∙◌, sym}
+use Rattle.std.proofs.Common.{arith}
 use Rattle.std.proofs.lemmas.Grind.{common_steps}
-use Rattle.std.proofs.lemmas.Option.{gets, slice_get-map}
 use Rattle.sequencer.proofs.Groups.{numbered, numbered_past, started}
 use Rattle.sequencer.proofs.records.RecordsSequencer.message.Goals as goal
 

@@ -1,4 +1,3 @@
 pub mod BodyParts
 pub mod BodyWrites
 pub mod OneOperation
-pub mod OperationTurns

@@ -3,7 +3,7 @@ ghost use Rattle.std.specs.Prelude.{◌≡◌, ◌+◌, ◌≤◌, ◌∷◌, �
 ghost use Rattle.octets.specs.Buffers.{overlaid};
 ghost use Rattle.octets.specs.Fronts.{Front};
 ghost use Rattle.octets.specs.Numbers.{bytes64};
-ghost use Rattle.bodies.specs.Operations.{OperationFits, key_bytes, operation_bytes};
+ghost use Rattle.bodies.specs.Operations.{OperationFits, is_read, is_write, key_bytes, key_of, operation_bytes, writes_to};
 
 use octets::{put, put_u64, read_u32, read_u64};
 
@@ -16,6 +16,40 @@ pub enum Operation {
     Write { key: u32, value: u64 },
     /// Declines the transaction unless the key has this value.
     Compare { key: u32, value: u64 },
+}
+
+impl Operation {
+    /// The key that it is at.
+    pub fn key(&self) -> u32
+        ensures { result ≡ key_of self.now }
+    {
+        match *self {
+            Operation::Read { key }
+            | Operation::Write { key, .. }
+            | Operation::Compare { key, .. } => key,
+        }
+    }
+
+    /// Whether it is a read.
+    pub fn is_read(&self) -> bool
+        ensures { result ≡ is_read self.now }
+    {
+        matches!(self, Operation::Read { .. })
+    }
+
+    /// Whether it is a write.
+    pub fn is_write(&self) -> bool
+        ensures { result ≡ is_write self.now }
+    {
+        matches!(self, Operation::Write { .. })
+    }
+
+    // Whether it writes the key.
+    pub(crate) fn writes_to(&self, sought: u32) -> bool
+        ensures { result ≡ writes_to self.now sought }
+    {
+        matches!(self, Operation::Write { key, .. } if *key == sought)
+    }
 }
 
 // The operation that `text` begins with, and what follows it.
@@ -48,8 +82,8 @@ pub(crate) fn operation_size(operation: &Operation) -> usize
         Operation::Write {
             key: _key,
             value: _value,
-        } => 13,
-        Operation::Compare {
+        }
+        | Operation::Compare {
             key: _key,
             value: _value,
         } => 13,

@@ -1,3 +1,1 @@
 pub mod Bits
-pub mod RowTurns
-pub mod Turns

@@ -1,15 +1,9 @@
 -- When two transactions conflict in a group.
-use Rattle.std.specs.Prelude.{ℕ, Bool, true, false, ◌&&◌, ◌||◌, List, ◌==◌}
+use Rattle.std.specs.Prelude.{ℕ, Bool, ◌&&◌, ◌||◌, List, ◌==◌}
+use Rattle.std.specs.List.{list_any}
+use Rattle.bodies.specs.Operations.{is_write, key_of}
 use Rattle.bodies.specs.declared.operation.Operation.{Operation}
-use Rattle.bodies.specs.declared.operation.Operation.TheVariants.{Read, Write, Compare}
-use Rattle.locks.specs.Groups.{is_local, key_of}
-use Rattle.protocol.specs.Tests.{any}
-
--- whether an operation is a write
-abbrev pub is_write : Operation → Bool
-is_write (Read k) = false
-is_write (Write k v) = true
-is_write (Compare k v) = false
+use Rattle.locks.specs.Groups.{is_local}
 
 -- whether two operations are at one key of the group, and at least one of them writes it
 abbrev pub clash : ℕ → ℕ → Operation → Operation → Bool
@@ -17,4 +11,4 @@ clash groups group a b = is_local groups group a && (key_of a == key_of b && (is
 
 -- whether two transactions conflict: an operation of the one and an operation of the other clash
 abbrev pub conflicts : ℕ → ℕ → List Operation → List Operation → Bool
-conflicts groups group left right = any (λ o. any (clash groups group o) right) left
+conflicts groups group left right = list_any (λ o. list_any (clash groups group o) right) left

@@ -1,14 +1,8 @@
 -- The groups of keys, and the groups that a transaction names.
 use Rattle.std.specs.Prelude.{ℕ, zero, suc, ◌+◌, ◌%◌, ◌^◌, Bool, cond, List, ◌==◌}
+use Rattle.std.specs.List.{list_any}
+use Rattle.bodies.specs.Operations.{key_of}
 use Rattle.bodies.specs.declared.operation.Operation.{Operation}
-use Rattle.bodies.specs.declared.operation.Operation.TheVariants.{Read, Write, Compare}
-use Rattle.protocol.specs.Tests.{any}
-
--- the key that an operation is at
-abbrev pub key_of : Operation → ℕ
-key_of (Read k) = k
-key_of (Write k v) = k
-key_of (Compare k v) = k
 
 -- the group of a key, of so many groups
 abbrev pub group_of : ℕ → ℕ → ℕ
@@ -20,7 +14,7 @@ is_local groups group o = group_of groups (key_of o) == group
 
 -- whether a transaction names the group: one of its operations is at a key of the group
 abbrev pub names_group : ℕ → List Operation → ℕ → Bool
-names_group groups os group = any (is_local groups group) os
+names_group groups os group = list_any (is_local groups group) os
 
 -- the number whose bit i is set for each i below n that passes the test
 abbrev pub bits_below : ℕ → (ℕ → Bool) → ℕ

@@ -1,9 +1,10 @@
 // The groups of keys, and the groups that a transaction names.
 ghost use Rattle.std.specs.Prelude.{◌≡◌, ◌&&◌, is_some};
-ghost use Rattle.locks.specs.Groups.{group_of, groups_byte, is_local, key_of, names_group};
+ghost use Rattle.bodies.specs.Operations.{key_of};
+ghost use Rattle.locks.specs.Groups.{group_of, groups_byte, is_local, names_group};
 ghost use Rattle.locks.specs.Partitions.{MadePartition};
 
-use crate::partition::{MOST_GROUPS, Partition};
+use crate::partition::{GroupOperations, MOST_GROUPS, Partition};
 use bodies::operation::Operation;
 use votes::ground::GroupSet;
 
@@ -30,7 +31,7 @@ impl Partition {
     pub fn is_of_group(&self, operation: &Operation, group: u8) -> bool
         ensures { result ≡ is_local self.now.groups group operation.now }
     {
-        self.group_of(key_of(operation)) == group
+        self.group_of(operation.key()) == group
     }
 
     /// Whether the operation is at a key of this group.
@@ -41,38 +42,37 @@ impl Partition {
     }
 }
 
-/// The key that the operation is at.
-pub fn key_of(operation: &Operation) -> u32
-    ensures { result ≡ key_of operation.now }
-{
-    match *operation {
-        Operation::Read { key } => key,
-        Operation::Write { key, value: _value } => key,
-        Operation::Compare { key, value: _value } => key,
-    }
-}
-
-/// Whether one of the operations is at a key of the group: then their transaction names the group.
-pub fn names_group(partition: &Partition, operations: &[Operation], group: u8) -> bool
-    ensures { result ≡ names_group partition.now.groups operations.now group }
-{
-    for operation in operations {
-        if partition.is_of_group(operation, group) {
-            return true;
+impl<'a> GroupOperations<'a> {
+    /// These operations, seen from this group.
+    pub fn new(partition: Partition, operations: &'a [Operation]) -> GroupOperations<'a>
+        ensures { (result.partition ≡ partition) × (result.operations.now ≡ operations.entry.now) }
+    {
+        GroupOperations {
+            partition,
+            operations,
         }
     }
-    false
-}
 
-/// The groups that the transaction of these operations names.
-pub fn group_set(partition: &Partition, operations: &[Operation]) -> GroupSet
-    ensures { result.bits ≡ groups_byte partition.now.groups operations.now }
-{
-    let mut bits = 0;
-    for group in 0..MOST_GROUPS {
-        if names_group(partition, operations, group) {
-            bits += 1 << group;
-        }
+    /// Whether one of the operations is at a key of the group: then their transaction names the group.
+    pub fn names_group(&self, group: u8) -> bool
+        ensures { result ≡ names_group self.now.partition.groups self.now.operations.now group }
+    {
+        let partition = self.partition;
+        self.operations
+            .iter()
+            .any(|operation| partition.is_of_group(operation, group))
     }
-    GroupSet { bits }
+
+    /// The groups that the transaction of these operations names.
+    pub fn group_set(&self) -> GroupSet
+        ensures { result.bits ≡ groups_byte self.now.partition.groups self.now.operations.now }
+    {
+        let mut bits = 0;
+        for group in 0..MOST_GROUPS {
+            if self.names_group(group) {
+                bits += 1 << group;
+            }
+        }
+        GroupSet { bits }
+    }
 }

@@ -1,6 +1,8 @@
 // How keys are spread over groups.
 ghost use Rattle.std.specs.Prelude.{◌<◌, ◌≤◌};
 
+use bodies::operation::Operation;
+
 /// The most groups that there are.
 pub const MOST_GROUPS: u8 = 8;
 
@@ -11,4 +13,11 @@ pub struct Partition {
     pub group: u8,
     ghost there: { group < groups },
     ghost few: { groups ≤ 8 },
+}
+
+/// The operations of a transaction, with the group that they are seen from.
+#[derive(Clone, Copy)]
+pub struct GroupOperations<'a> {
+    pub partition: Partition,
+    pub operations: &'a [Operation],
 }

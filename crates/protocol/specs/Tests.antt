@@ -1,15 +1,14 @@
 -- Tests on lists, computed.
-use Rattle.std.specs.Prelude.{ℕ, Bool, true, false, ◌&&◌, ◌||◌, List, [], ◌∷◌, nat_eq}
+use Rattle.std.specs.Prelude.{ℕ, Bool, List, nat_eq}
+use Rattle.std.specs.List.{list_any, list_all}
 
 -- some member passes
 abbrev pub any : {A : Type 0} → (A → Bool) → List A → Bool
-any f [] = false
-any f (x ∷ xs) = f x || any f xs
+any = list_any
 
 -- every member passes
 abbrev pub all : {A : Type 0} → (A → Bool) → List A → Bool
-all f [] = true
-all f (x ∷ xs) = f x && all f xs
+all = list_all
 
 -- a number is a member
 abbrev pub has : List ℕ → ℕ → Bool

@@ -1,2 +1,1 @@
-mod Counts
-mod Spreads
+mod Shown

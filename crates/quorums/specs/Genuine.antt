@@ -1,7 +1,7 @@
 -- Whether the marks of a certificate are genuine.
 use Rattle.std.specs.Prelude.{ℕ, Bool, List}
+use Rattle.std.specs.List.{list_all}
 use Rattle.envelope.specs.declared.name.Name.{Name}
-use Rattle.protocol.specs.Tests.{all}
 use Rattle.votes.specs.Entries.{EntryModel}
 use Rattle.votes.specs.Votes.{vote_byte}
 use Rattle.votes.specs.declared.statement.Statement.{Statement}
@@ -13,4 +13,4 @@ stated x v e = record { group = e.group; replica = e.replica; vote = vote_byte v
 
 -- whether every entry's mark is genuine for what the entry states
 abbrev pub all_genuine : (Statement → List ℕ → Bool) → Name → Vote → List EntryModel → Bool
-all_genuine genuine x v es = all (λ e. genuine (stated x v e) e.mark) es
+all_genuine genuine x v es = list_all (λ e. genuine (stated x v e) e.mark) es

@@ -27,10 +27,7 @@ fn is_genuine<K: MarkScheme>(scheme: &K, name: &Name, vote: Vote, entry: &Entry)
 pub fn are_genuine<K: MarkScheme>(scheme: &K, name: &Name, vote: Vote, entries: &[Entry]) -> bool
     ensures { result ≡ all_genuine (K.genuine scheme.now) name.now vote (map shown entries.now) }
 {
-    for entry in entries {
-        if !is_genuine(scheme, name, vote, entry) {
-            return false;
-        }
-    }
-    true
+    entries
+        .iter()
+        .all(|entry| is_genuine(scheme, name, vote, entry))
 }

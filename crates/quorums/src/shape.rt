@@ -1,128 +1,90 @@
 // Whether a certificate has the entries that it must have.
-ghost use Rattle.std.specs.Prelude.{◌≡◌, ◌+◌, ◌&&◌, map, length, ◌==◌, nat_eq, nat_lt};
-ghost use Rattle.quorums.specs.Shapes.{count_of, shaped, spread};
-ghost use Rattle.locks.specs.Groups.{group_of, is_local, key_of, names_group};
-ghost use Rattle.protocol.specs.Tests.{all, any};
+ghost use Rattle.std.specs.Prelude.{◌≡◌, ◌+◌, ◌&&◌, count_by, map, length, ◌==◌, nat_eq, nat_lt};
+ghost use Rattle.std.specs.List.{list_all, list_any};
+ghost use Rattle.quorums.specs.Shapes.{shaped, spread};
+ghost use Rattle.bodies.specs.Operations.{key_of};
+ghost use Rattle.locks.specs.Groups.{group_of, is_local, names_group};
 ghost use Rattle.votes.specs.Entries.{shown};
 
 use crate::tolerance::Tolerance;
 use bodies::operation::Operation;
-use locks::groups::{key_of, names_group};
-use locks::partition::Partition;
+use locks::partition::{GroupOperations, Partition};
 use votes::entry::Entry;
 use votes::vote::Vote;
 
 // How many entries are of the group.
 fn count_of(entries: &[Entry], group: u8) -> usize
-    ensures { result ≡ count_of group (map shown entries.now) }
+    ensures { result ≡ count_by (λ e. nat_eq e.group group) entries.now }
 {
-    let mut count = 0;
-    for entry in entries {
-        if entry.group == group {
-            count += 1;
-        }
-    }
-    count
+    entries.iter().filter(|entry| entry.group == group).count()
 }
 
 // Whether every entry is of a replica numbered below `replicas`.
 fn are_below(entries: &[Entry], replicas: u8) -> bool
-    ensures { result ≡ all (λ e. nat_lt e.replica replicas) (map shown entries.now) }
+    ensures { result ≡ list_all (λ e. nat_lt e.replica replicas) entries.now }
 {
-    for entry in entries {
-        if entry.replica >= replicas {
-            return false;
-        }
-    }
-    true
+    entries.iter().all(|entry| entry.replica < replicas)
 }
 
-// Whether every entry is of a group that the operations name.
-fn are_named(partition: &Partition, operations: &[Operation], entries: &[Entry]) -> bool
-    ensures { result ≡ all (λ e. names_group partition.now.groups operations.now e.group) (map shown entries.now) }
+// Whether every entry is of a group that the transaction names.
+fn are_named(transaction: &GroupOperations, entries: &[Entry]) -> bool
+    ensures { result ≡ list_all (λ e. names_group transaction.now.partition.groups transaction.now.operations.now e.group) entries.now }
 {
-    for entry in entries {
-        if !names_group(partition, operations, entry.group) {
-            return false;
-        }
-    }
-    true
+    entries
+        .iter()
+        .all(|entry| transaction.names_group(entry.group))
 }
 
-// Whether there are f + 1 entries of the group that the operation names.
-fn is_full(partition: &Partition, faults: u8, operation: &Operation, entries: &[Entry]) -> bool
-    ensures { result ≡ (count_of (group_of partition.now.groups (key_of operation.now)) (map shown entries.now) == faults + 1) }
+// Whether there are f + 1 entries of each group that the transaction names.
+fn are_full(transaction: &GroupOperations, faults: u8, entries: &[Entry]) -> bool
+    ensures { result ≡ list_all (λ o. nat_eq (count_by (λ e. nat_eq e.group (group_of transaction.now.partition.groups (key_of o))) entries.now) (faults + 1)) transaction.now.operations.now }
 {
-    count_of(entries, partition.group_of(key_of(operation))) == faults as usize + 1
-}
-
-// Whether there are f + 1 entries of each group that the operations name.
-fn are_full(partition: &Partition, faults: u8, operations: &[Operation], entries: &[Entry]) -> bool
-    ensures { result ≡ all (λ o. nat_eq (count_of (group_of partition.now.groups (key_of o)) (map shown entries.now)) (faults + 1)) operations.now }
-{
-    for operation in operations {
-        if !is_full(partition, faults, operation, entries) {
-            return false;
-        }
-    }
-    true
+    transaction.operations.iter().all(|operation| {
+        count_of(entries, transaction.partition.group_of(operation.key())) == faults as usize + 1
+    })
 }
 
 // Whether all entries are of the group that the operation names.
 fn are_of(partition: &Partition, operation: &Operation, entries: &[Entry]) -> bool
-    ensures { result ≡ all (λ e. is_local partition.now.groups e.group operation.now) (map shown entries.now) }
+    ensures { result ≡ list_all (λ e. is_local partition.now.groups e.group operation.now) entries.now }
 {
-    for entry in entries {
-        if !partition.is_of_group(operation, entry.group) {
-            return false;
-        }
-    }
-    true
+    entries
+        .iter()
+        .all(|entry| partition.is_of_group(operation, entry.group))
 }
 
-// Whether all entries are of one group that the operations name.
-fn are_of_one(partition: &Partition, operations: &[Operation], entries: &[Entry]) -> bool
-    ensures { result ≡ any (λ o. all (λ e. is_local partition.now.groups e.group o) (map shown entries.now)) operations.now }
+// Whether all entries are of one group that the transaction names.
+fn are_of_one(transaction: &GroupOperations, entries: &[Entry]) -> bool
+    ensures { result ≡ list_any (λ o. list_all (λ e. is_local transaction.now.partition.groups e.group o) entries.now) transaction.now.operations.now }
 {
-    for operation in operations {
-        if are_of(partition, operation, entries) {
-            return true;
-        }
-    }
-    false
+    transaction.operations.iter().any(|operation| are_of(
+        &transaction.partition,
+        operation,
+        entries,
+    ))
 }
 
 // Whether the entries are f + 1 of each group that they must be of, and of no other.
-fn are_spread(
-    partition: &Partition,
-    faults: u8,
-    operations: &[Operation],
-    vote: Vote,
-    entries: &[Entry],
-) -> bool
-    ensures { result ≡ spread partition.now.groups faults operations.now vote (map shown entries.now) }
+fn are_spread(transaction: &GroupOperations, faults: u8, vote: Vote, entries: &[Entry]) -> bool
+    ensures { result ≡ spread transaction.now.partition.groups faults transaction.now.operations.now vote (map shown entries.now) }
 {
     match vote {
         Vote::Commit => {
-            are_named(partition, operations, entries)
-                && are_full(partition, faults, operations, entries)
+            are_named(transaction, entries) && are_full(transaction, faults, entries)
         }
-        Vote::Abort => {
-            entries.len() == faults as usize + 1 && are_of_one(partition, operations, entries)
-        }
+        Vote::Abort => { entries.len() == faults as usize + 1 && are_of_one(transaction, entries) }
     }
 }
 
-/// Whether a certificate of this vote with these entries has what the transaction of these operations asks for.
+/// Whether a certificate of this vote with these entries has what the transaction asks for.
 pub fn is_shaped(
-    partition: &Partition,
+    transaction: &GroupOperations,
     tolerance: Tolerance,
-    operations: &[Operation],
     vote: Vote,
     entries: &[Entry],
 ) -> bool
-    ensures { result ≡ shaped partition.now.groups tolerance.replicas tolerance.faults operations.now vote (map shown entries.now) }
+    ensures { result ≡ shaped transaction.now.partition.groups tolerance.replicas tolerance.faults transaction.now.operations.now vote (map shown entries.now) }
 {
     are_below(entries, tolerance.replicas)
-        && are_spread(partition, tolerance.faults, operations, vote, entries)
+        && are_spread(transaction, tolerance.faults, vote, entries)
 }

@@ -15,8 +15,7 @@ use crate::pending::{find_pending, release};
 use crate::state::{PendingPlace, Replica};
 use bodies::operation::Operation;
 use envelope::name::Name;
-use locks::partition::Partition;
-use locks::rows::write_values;
+use locks::partition::{GroupOperations, Partition};
 use marks::scheme::MarkScheme;
 use quorums::genuine::are_genuine;
 use quorums::shape::is_shaped;
@@ -33,7 +32,7 @@ fn write_rows(partition: &Partition, rows: &mut Vec<Row<u32, u64>>, operations: 
     ensures after { rows.new.items ≡ written_by_all partition.now.groups partition.now.group operations.now rows.old.items }
     ensures rises { rising by_number rows.new.items ≡ true }
 {
-    write_values(partition, rows, operations);
+    GroupOperations::new(*partition, operations).write_values(rows);
 }
 
 // Does what the end of a transaction does to rows: a commit writes them.
@@ -81,13 +80,8 @@ impl Replica {
         let Some(held) = self.pending_of(&name) else {
             return Err(CertificateFault::NotPending);
         };
-        if !is_shaped(
-            &self.partition,
-            self.tolerance,
-            held.body.operations(),
-            vote,
-            entries,
-        ) {
+        let transaction = GroupOperations::new(self.partition, held.body.operations());
+        if !is_shaped(&transaction, self.tolerance, vote, entries) {
             return Err(CertificateFault::Shape);
         }
         if !are_genuine(scheme, &name, vote, entries) {

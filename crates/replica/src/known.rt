@@ -18,7 +18,7 @@ use crate::pending::find_pending;
 use crate::reply::Reply;
 use crate::state::{PendingPlace, Replica};
 use envelope::name::Name;
-use locks::rows::read_values;
+use locks::partition::GroupOperations;
 use votes::ground::Ground;
 use votes::state::State;
 use votes::values::Values;
@@ -54,7 +54,9 @@ impl Replica {
         ensures { listed result ≡ reads_again (config self.now) (view self.now) name.now }
     {
         match find_pending(&self.pending, name) {
-            Some(held) => read_values(&self.partition, &self.rows, held.body.operations()),
+            Some(held) => {
+                GroupOperations::new(self.partition, held.body.operations()).read_values(&self.rows)
+            }
             None => Values::new(0),
         }
     }
@@ -133,7 +135,9 @@ impl Replica {
         ensures reply { Ok (Some (reply_model result)) ≡ (admitted (config self.old) (view self.old) (transaction place)).1 }
         ensures fixed { config self.new ≡ config self.old }
     {
-        let reads = read_values(&self.partition, &self.rows, place.body.operations());
+        let reads = GroupOperations::new(self.partition, place.body.operations()).read_values(
+            &self.rows,
+        );
         self.enter_new(&place.name, State::Pending);
         self.pending.push_reserved(place);
         Reply {

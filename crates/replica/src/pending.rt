@@ -9,8 +9,7 @@ ghost use Rattle.replica.specs.Transactions.{transaction};
 use crate::state::PendingPlace;
 use bodies::operation::Operation;
 use envelope::name::Name;
-use locks::conflict::are_in_conflict;
-use locks::partition::Partition;
+use locks::partition::{GroupOperations, Partition};
 use std::cmp::Ordering;
 use table::key::Key;
 
@@ -71,7 +70,7 @@ pub fn find_conflict(
     ensures { option_map transaction result ≡ first (is_conflicting partition.now.groups partition.now.group operations.now) (map transaction places.now) }
 {
     for other in places {
-        if are_in_conflict(partition, operations, other.body.operations()) {
+        if GroupOperations::new(*partition, operations).conflicts_with(other.body.operations()) {
             return Some(*other);
         }
     }

@@ -13,8 +13,7 @@ use crate::reply::Reply;
 use crate::state::{MOST_PENDING, PendingPlace, Replica};
 use bodies::operation::Operation;
 use envelope::name::Name;
-use locks::groups::{group_set, names_group};
-use locks::rows::{has_unequal, lacks_row};
+use locks::partition::GroupOperations;
 use votes::fault::DeliveryFault;
 use votes::ground::{Blocker, Ground};
 
@@ -35,7 +34,7 @@ impl Replica {
         if self.is_crowded() {
             return Some(Ground::NoPlace);
         }
-        if has_unequal(&self.partition, &self.rows, operations) {
+        if GroupOperations::new(self.partition, operations).has_unequal(&self.rows) {
             Some(Ground::Unequal)
         } else {
             None
@@ -47,11 +46,11 @@ impl Replica {
         ensures ground { result ≡ objection (config self.now) (view self.now) operations.now }
         ensures room { result ≡ None → vec_len self.now.pending < 32 }
     {
-        if lacks_row(&self.partition, &self.rows, operations) {
+        if GroupOperations::new(self.partition, operations).lacks_row(&self.rows) {
             return Some(Ground::NoRow);
         }
         if let Some(held) = find_conflict(&self.partition, &self.pending, operations) {
-            let groups = group_set(&self.partition, held.body.operations());
+            let groups = GroupOperations::new(self.partition, held.body.operations()).group_set();
             return Some(Ground::Blocked(Blocker {
                 name: held.name,
                 groups,
@@ -94,11 +93,8 @@ impl Replica {
         ensures outcome { outcome result ≡ (on_body (config self.old) (view self.old) (transaction place)).1 }
         ensures fixed { config self.new ≡ config self.old }
     {
-        if !names_group(
-            &self.partition,
-            place.body.operations(),
-            self.partition.group,
-        ) {
+        let transaction = GroupOperations::new(self.partition, place.body.operations());
+        if !transaction.names_group(self.partition.group) {
             return Err(DeliveryFault::NoKeyHere);
         }
         if let Some(reply) = self.answer_known(&place.name, Delivered::Body) {

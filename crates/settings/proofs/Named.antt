@@ -2,10 +2,11 @@
 use Rattle.std.proofs.Common.{◌≡◌, ℕ, Bool, true, false, eqb, List, [], ◌∷◌, sym, refl, ap, ◌∙◌, inl, inr, arith}
 use mathlib.Core.Bool.{false≢true}
 use mathlib.Core.Option.{Option, none, some}
+use Rattle.bodies.specs.Operations.{key_of}
 use Rattle.bodies.specs.declared.operation.Operation.{Operation}
 use Rattle.bodies.specs.declared.operation.Operation.TheVariants.{Read, Write, Compare}
 use Rattle.envelope.specs.declared.name.Name.{Name}
-use Rattle.locks.specs.Groups.{group_of, is_local, key_of, names_group}
+use Rattle.locks.specs.Groups.{group_of, is_local, names_group}
 use Rattle.protocol.specs.Conflicts.{Touches}
 use Rattle.protocol.specs.Lists.{In}
 use Rattle.protocol.specs.Transactions.{Names, by_read, by_compare, by_write}

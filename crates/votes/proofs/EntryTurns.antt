@@ -1,28 +1,50 @@
--- The turns of the loop that looks whether the entries of a certificate rise.
-use Rattle.std.proofs.Common.{◌≡◌, ℕ, ◌+◌, ◌<◌, ◌≤◌, Bool, true, false, ◌&&◌, leb, List, [], ◌∷◌, map, length, get_or, drop, sym, refl, ap, ◌∙◌}
-use Rattle.std.specs.List.{AllByRecursion}
-use Rattle.std.proofs.lemmas.List.{at_drop_all, at_drop_more}
-use Rattle.std.proofs.lemmas.Bool.{and_from, eq-eqb, le-leb, lt-leb}
+-- The entries of a certificate, tested for their marks and for their order.
+use Rattle.std.proofs.Common.{◌≡◌, ℕ, zero, suc, ◌+◌, ◌<◌, ◌≤◌, true, false, ◌&&◌, Bool, leb, ltb, List, [], ◌∷◌, map, length, get_or, sym, refl, ap, ◌∙◌, arith}
+use Rattle.std.specs.List.{AllAdjacentBelow, AllByRecursion, IsAllAdjacentAnswer}
+use Rattle.std.proofs.lemmas.Bool.{and_from, eq-eqb, le-leb}
+use Rattle.std.proofs.lemmas.Bool.Decides.{nat_tests}
+use native.Mathlib.Numerals.{unary_clauses}
 use Rattle.votes.specs.Entries.{EntryFits, EntryModel, all_wide, rank, rises, shown}
 use Rattle.votes.specs.declared.entry.Entry.{Entry}
 
-module _ (least : ℕ) (es : List Entry) (i : ℕ) (inv : rises least (map shown (drop i es)) ≡ rises 0 (map shown es)) where
-  pub rises_all : length es ≤ i → true ≡ rises 0 (map shown es)
-  rises_all end = sym (at_drop_all (λ l. rises least (map shown l)) es i end) ∙ inv
+-- what a list is said to hold past its end
+abbrev pub blank : Entry
+blank = record { group = 0; replica = 0; mark = record { field-0 = record { count = 0; items = []; within = lit≤ tt } } }
 
-  -- e is the entry of this turn
-  module _ (low : i < length es) (e : Entry) (is : e ≡ get_or es i e) where
-    abbrev on : Entry → Bool
-    on x = leb least (rank (shown x)) && rises (rank (shown x) + 1) (map shown (drop (i + 1) es))
+-- whether an entry stands before another
+abbrev pub before : Entry → Entry → Bool
+before a b = ltb (rank (shown a)) (rank (shown b))
 
-    step : rises 0 (map shown es) ≡ on e
-    step = sym inv ∙ at_drop_more (λ l. rises least (map shown l)) es i e low ∙ ap on (sym is)
+-- the first entry is high enough, and each stands before the next
+up : (least : ℕ) (e : Entry) (es : List Entry) → least ≤ rank (shown e) →
+    AllAdjacentBelow (λ a b. true ≡ before a b) (e ∷ es) (length (e ∷ es)) → true ≡ rises least (map shown (e ∷ es))
+up least e [] low next = cc (le-leb _ _ low)
+up least e (f ∷ es) low next =
+    let here : rank (shown e) + 1 ≤ rank (shown f) = grind (arith, nat_tests, next 0 f (omega arith)) in
+    let there : true ≡ rises (rank (shown e) + 1) (map shown (f ∷ es)) =
+        up (rank (shown e) + 1) f es here (λ k d l. simp unary_clauses (simp unary_clauses at (next (suc k) d (omega arith)))) in
+    cc (le-leb _ _ low)
 
-    pub rises_not : rank (shown e) < least → false ≡ rises 0 (map shown es)
-    rises_not below = sym (step ∙ ap (λ t. t && rises (rank (shown e) + 1) (map shown (drop (i + 1) es))) (lt-leb _ _ below))
+never : (b : Bool) → false ≡ (b && false)
+never true = refl
+never false = refl
 
-    pub rises_on : least ≤ rank (shown e) → rises (rank (shown e) + 1) (map shown (drop (i + 1) es)) ≡ rises 0 (map shown es)
-    rises_on above = sym (step ∙ ap (λ t. t && rises (rank (shown e) + 1) (map shown (drop (i + 1) es))) (le-leb _ _ above))
+-- one does not stand before the next
+down : (least : ℕ) (es : List Entry) (k : ℕ) → k + 1 < length es →
+    ((d : Entry) → false ≡ before (get_or es k d) (get_or es (k + 1) d)) → false ≡ rises least (map shown es)
+down least [] k l not = absurd (omega arith)
+down least (e ∷ []) k l not = absurd (omega arith)
+down least (e ∷ f ∷ es) zero l not =
+    let low : leb (rank (shown e) + 1) (rank (shown f)) ≡ false = grind (arith, nat_tests, not f) in
+    never (leb least (rank (shown e))) ∙ ap (λ t. leb least (rank (shown e)) && (t && rises (rank (shown f) + 1) (map shown es))) (sym low)
+down least (e ∷ f ∷ es) (suc k) l not =
+    let there = down (rank (shown e) + 1) (f ∷ es) k (omega arith) (λ d. simp unary_clauses (simp unary_clauses at (not d))) in
+    never (leb least (rank (shown e))) ∙ ap (λ t. leb least (rank (shown e)) && t) there
+
+pub rises_is : (r : Bool) (es : List Entry) → IsAllAdjacentAnswer (λ a b r. r ≡ before a b) es r → r ≡ rises 0 (map shown es)
+rises_is true [] next = refl
+rises_is true (e ∷ es) next = up 0 e es (omega arith) next
+rises_is false es next = down 0 es next.0 next.1 next.2
 
 -- marks of m bytes are all wide
 pub wide_from : (m : ℕ) (es : List EntryModel) → AllByRecursion (EntryFits m) es → all_wide m es ≡ true

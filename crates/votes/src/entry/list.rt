@@ -1,6 +1,6 @@
 // Whether the marks of entries are as wide as they should be, and whether the entries rise.
 ghost use Rattle.std.specs.Prelude.{◌≡◌, map};
-ghost use Rattle.votes.specs.Entries.{all_wide, rises, shown};
+ghost use Rattle.votes.specs.Entries.{all_wide, rank, rises, shown};
 
 use crate::entry::Entry;
 
@@ -13,17 +13,16 @@ pub fn all_wide(width: usize, entries: &[Entry]) -> bool
         .all(|entry| entry.mark.as_slice().len() == width)
 }
 
+// The place of the entry in the order: by group, then by replica.
+fn rank(entry: &Entry) -> u32
+    ensures { result ≡ rank (shown entry.now) }
+{
+    entry.group as u32 * 256 + entry.replica as u32
+}
+
 /// Whether the entries rise strictly, by group, then by replica.
 pub fn are_rising(entries: &[Entry]) -> bool
     ensures { result ≡ rises 0 (map shown entries.now) }
 {
-    let mut least = 0u32;
-    for entry in entries {
-        let rank = entry.group as u32 * 256 + entry.replica as u32;
-        if rank < least {
-            return false;
-        }
-        least = rank + 1;
-    }
-    true
+    entries.is_sorted_by(|left, right| rank(left) < rank(right))
 }

@@ -1,11 +1,13 @@
-use Rattle.locks.proofs.Turns.{each_end, each_not, each_on}
+use Rattle.std.proofs.Common.{rules}
+use Rattle.std.proofs.lemmas.Iterator.{YieldsList-from_slice}
+use Rattle.std.proofs.lemmas.Iterator.Search.{all_from_yields_List}
+use Rattle.std.proofs.lemmas.List.Folds.{list_all-map}
+use borrow.Author.Tests.{tests}
+use Rattle.votes.specs.Entries.{shown}
+use Rattle.quorums.specs.Genuine.{stated}
 use Rattle.quorums.proofs.genuine.are_genuine.Goals as goal
 
-pub returns-then-not-is_genuine : goal.returns-then-not-is_genuine
-returns-then-not-is_genuine g c = each_not _ _ _ _ c.loop-entry.invariant _ c.entry-item.is c.loop-entry-test.true c.if-not-is_genuine.ensures
-
-pub loop-entry-preserved : goal.loop-entry-preserved
-loop-entry-preserved g c = each_on _ _ _ _ c.loop-entry.invariant _ c.entry-item.is c.loop-entry-test.true c.if-not-is_genuine.ensures
-
 pub returns : goal.returns
-returns g c = each_end _ _ _ _ c.loop-entry.invariant c.loop-entry-test.false
+returns g c =
+    rw list_all-map (all_from_yields_List (λ e. g.K.MarkScheme.genuine c.args.scheme.now (stated c.args.name.now c.args.vote (shown e)) (shown e).mark)
+    _ _ _ c.all.ensures.ran (YieldsList-from_slice c.args.entries.now (search rules)) (λ x b q k. search (rules, tests)))

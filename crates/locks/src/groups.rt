@@ -42,25 +42,14 @@ impl Partition {
     }
 }
 
-impl<'a> GroupOperations<'a> {
-    /// These operations, seen from this group.
-    pub fn new(partition: Partition, operations: &'a [Operation]) -> GroupOperations<'a>
-        ensures { (result.partition ≡ partition) × (result.operations.now ≡ operations.entry.now) }
-    {
-        GroupOperations {
-            partition,
-            operations,
-        }
-    }
-
+impl GroupOperations<'_> {
     /// Whether one of the operations is at a key of the group: then their transaction names the group.
     pub fn names_group(&self, group: u8) -> bool
         ensures { result ≡ names_group self.now.partition.groups self.now.operations.now group }
     {
-        let partition = self.partition;
         self.operations
             .iter()
-            .any(|operation| partition.is_of_group(operation, group))
+            .any(|operation| self.partition.is_of_group(operation, group))
     }
 
     /// The groups that the transaction of these operations names.

@@ -32,7 +32,11 @@ fn write_rows(partition: &Partition, rows: &mut Vec<Row<u32, u64>>, operations: 
     ensures after { rows.new.items ≡ written_by_all partition.now.groups partition.now.group operations.now rows.old.items }
     ensures rises { rising by_number rows.new.items ≡ true }
 {
-    GroupOperations::new(*partition, operations).write_values(rows);
+    let transaction = GroupOperations {
+        partition: *partition,
+        operations,
+    };
+    transaction.write_values(rows);
 }
 
 // Does what the end of a transaction does to rows: a commit writes them.
@@ -80,7 +84,10 @@ impl Replica {
         let Some(held) = self.pending_of(&name) else {
             return Err(CertificateFault::NotPending);
         };
-        let transaction = GroupOperations::new(self.partition, held.body.operations());
+        let transaction = GroupOperations {
+            partition: self.partition,
+            operations: held.body.operations(),
+        };
         if !is_shaped(&transaction, self.tolerance, vote, entries) {
             return Err(CertificateFault::Shape);
         }

@@ -55,7 +55,11 @@ impl Replica {
     {
         match find_pending(&self.pending, name) {
             Some(held) => {
-                GroupOperations::new(self.partition, held.body.operations()).read_values(&self.rows)
+                let transaction = GroupOperations {
+                    partition: self.partition,
+                    operations: held.body.operations(),
+                };
+                transaction.read_values(&self.rows)
             }
             None => Values::new(0),
         }
@@ -135,9 +139,11 @@ impl Replica {
         ensures reply { Ok (Some (reply_model result)) ≡ (admitted (config self.old) (view self.old) (transaction place)).1 }
         ensures fixed { config self.new ≡ config self.old }
     {
-        let reads = GroupOperations::new(self.partition, place.body.operations()).read_values(
-            &self.rows,
-        );
+        let transaction = GroupOperations {
+            partition: self.partition,
+            operations: place.body.operations(),
+        };
+        let reads = transaction.read_values(&self.rows);
         self.enter_new(&place.name, State::Pending);
         self.pending.push_reserved(place);
         Reply {

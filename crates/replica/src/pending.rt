@@ -69,8 +69,12 @@ pub fn find_conflict(
 ) -> Option<PendingPlace>
     ensures { option_map transaction result ≡ first (is_conflicting partition.now.groups partition.now.group operations.now) (map transaction places.now) }
 {
+    let transaction = GroupOperations {
+        partition: *partition,
+        operations,
+    };
     for other in places {
-        if GroupOperations::new(*partition, operations).conflicts_with(other.body.operations()) {
+        if transaction.conflicts_with(other.body.operations()) {
             return Some(*other);
         }
     }

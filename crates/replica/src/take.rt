@@ -34,7 +34,11 @@ impl Replica {
         if self.is_crowded() {
             return Some(Ground::NoPlace);
         }
-        if GroupOperations::new(self.partition, operations).has_unequal(&self.rows) {
+        let transaction = GroupOperations {
+            partition: self.partition,
+            operations,
+        };
+        if transaction.has_unequal(&self.rows) {
             Some(Ground::Unequal)
         } else {
             None
@@ -46,14 +50,21 @@ impl Replica {
         ensures ground { result ≡ objection (config self.now) (view self.now) operations.now }
         ensures room { result ≡ None → vec_len self.now.pending < 32 }
     {
-        if GroupOperations::new(self.partition, operations).lacks_row(&self.rows) {
+        let transaction = GroupOperations {
+            partition: self.partition,
+            operations,
+        };
+        if transaction.lacks_row(&self.rows) {
             return Some(Ground::NoRow);
         }
         if let Some(held) = find_conflict(&self.partition, &self.pending, operations) {
-            let groups = GroupOperations::new(self.partition, held.body.operations()).group_set();
+            let blocking = GroupOperations {
+                partition: self.partition,
+                operations: held.body.operations(),
+            };
             return Some(Ground::Blocked(Blocker {
                 name: held.name,
-                groups,
+                groups: blocking.group_set(),
             }));
         }
         self.late_objection_to(operations)
@@ -93,7 +104,10 @@ impl Replica {
         ensures outcome { outcome result ≡ (on_body (config self.old) (view self.old) (transaction place)).1 }
         ensures fixed { config self.new ≡ config self.old }
     {
-        let transaction = GroupOperations::new(self.partition, place.body.operations());
+        let transaction = GroupOperations {
+            partition: self.partition,
+            operations: place.body.operations(),
+        };
         if !transaction.names_group(self.partition.group) {
             return Err(DeliveryFault::NoKeyHere);
         }

@@ -5,12 +5,12 @@ use Rattle.replica.specs.Transactions.{transaction}
 use Rattle.replica.proofs.Searches.{first_end, first_here, first_on}
 use Rattle.replica.proofs.pending.find_conflict.Goals as goal
 
-pub returns-then-are_in_conflict : goal.returns-then-are_in_conflict
-returns-then-are_in_conflict c =
+pub returns-then-conflicts_with : goal.returns-then-conflicts_with
+returns-then-conflicts_with c =
     let p = c.args.partition.now in
     first_here (is_conflicting p.groups p.group c.args.operations.now) transaction _ _ c.loop-other.invariant _
     c.other-item.is c.loop-other-test.true
-    (c.if-are_in_conflict.ensures
+    (c.if-conflicts_with.ensures
     ∙ ap (conflicts p.groups p.group c.args.operations.now) c.operations.ensures.value)
 
 pub loop-other-preserved : goal.loop-other-preserved
@@ -18,7 +18,7 @@ loop-other-preserved c =
     let p = c.args.partition.now in
     first_on (is_conflicting p.groups p.group c.args.operations.now) transaction _ _ c.loop-other.invariant _
     c.other-item.is c.loop-other-test.true
-    (c.if-are_in_conflict.ensures
+    (c.if-conflicts_with.ensures
     ∙ ap (conflicts p.groups p.group c.args.operations.now) c.operations.ensures.value)
 
 pub returns : goal.returns

@@ -7,12 +7,5 @@ ghost use Rattle.std.specs.Str.{bytes_eq};
 pub fn equal_bytes(left: &[u8], right: &[u8]) -> bool
     ensures { result ≡ bytes_eq left.now right.now }
 {
-    if left.len() != right.len() {
-        return false;
-    }
-    let mut difference = 0;
-    for i in 0..left.len() {
-        difference |= left[i] ^ right[i];
-    }
-    difference == 0
+    left.len() == right.len() && left.iter().zip(right).fold(0, |d, (l, r)| d | (l ^ r)) == 0
 }

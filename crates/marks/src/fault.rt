@@ -11,12 +11,12 @@ pub enum GiveFault {
     Spent,
 }
 
-impl GiveFault {
-    /// The number in the table of refusals.
-    pub fn number(self) -> u8
-        ensures { result ≡ give_number self }
-    {
-        match self {
+impl From<GiveFault> for u8 {
+    // The number in the table of refusals.
+    ghost from_gives = { λ fault number. number ≡ give_number fault };
+
+    fn from(fault: GiveFault) -> u8 {
+        match fault {
             GiveFault::ShortBuffer => 8,
             GiveFault::Spent => 16,
         }

@@ -7,11 +7,9 @@ use votes::statement::Statement;
 
 /// A mark of the statement, or none where the replica that it names is spent.
 pub fn give_mark<K: MarkScheme>(scheme: &mut K, statement: &Statement) -> Option<Mark>
-    ensures { GivesMark K K.genuine K.spent K.leaves K.size scheme.old scheme.new statement.now result }
+    ensures { GivesMark K K.genuine K.spent K.leaves K.SIZE scheme.old scheme.new statement.now result }
 {
     let mut buffer = [0; LARGEST_MARK];
-    match scheme.give(statement, &mut buffer) {
-        Ok(()) => Mark::new(&buffer[0..K::mark_size()]),
-        Err(_) => None,
-    }
+    scheme.give(statement, &mut buffer).ok()?;
+    Mark::new(&buffer[0..K::SIZE])
 }

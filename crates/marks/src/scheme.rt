@@ -12,8 +12,8 @@ pub trait MarkScheme {
     /// How many bytes a mark has.
     const SIZE: usize;
 
-    // The same number, for clauses, which cannot name the constant.
-    ghost size: { ℕ };
+    // The same number in clauses.
+    ghost SIZE: { ℕ };
 
     // Whether these bytes are a genuine mark of the statement. No call changes this.
     ghost genuine: { Self → Stated → List ℕ → Bool };
@@ -24,18 +24,14 @@ pub trait MarkScheme {
     // What is left of the scheme by a mark of a statement: each kind of scheme's own.
     ghost leaves: { Self → Stated → Self → Type 0 };
 
-    /// `Self::SIZE`, which the contract ties to the scheme's meaning.
-    fn mark_size() -> usize
-        ensures { result ≡ size };
-
     /// Writes a mark of the statement, for the replica that it names, at the front of `out`; or refuses and changes
     /// nothing.
     fn give(&mut self, statement: &Statement, out: &mut [u8]) -> Result<(), GiveFault>
-        ensures { Gives Self genuine spent leaves size self.old self.new statement.now out.old out.new result };
+        ensures { Gives Self genuine spent leaves SIZE self.old self.new statement.now out.old out.new result };
 
     /// Whether `mark` is genuine for the statement.
     fn check(&self, statement: &Statement, mark: &[u8]) -> bool
         ensures { result ≡ genuine self.now statement.now mark.now };
 
-    ghost sized: { (1 ≤ size) × (size ≤ largest_mark) };
+    ghost sized: { (1 ≤ SIZE) × (SIZE ≤ largest_mark) };
 }

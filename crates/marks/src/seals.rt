@@ -33,11 +33,7 @@ pub struct Seals {
 fn holder_at(group: u8, replica: u8) -> Option<usize>
     ensures { result ≡ place_of group replica }
 {
-    if group < 8 && replica < 7 {
-        Some(7 * group as usize + replica as usize)
-    } else {
-        None
-    }
+    (group < 8 && replica < 7).then(|| 7 * group as usize + replica as usize)
 }
 
 // The seal of the statement under the key.
@@ -50,7 +46,7 @@ fn seal(key: &[u8; 32], statement: &Statement) -> [u8; 32]
 impl MarkScheme for Seals {
     const SIZE: usize = SEAL_SIZE;
 
-    ghost size = { 32 };
+    ghost SIZE = { 32 };
 
     ghost genuine = { λ s statement mark. is_seal s.holders statement mark };
 
@@ -60,37 +56,23 @@ impl MarkScheme for Seals {
 
     ghost sized = { Prim.search rules };
 
-    fn mark_size() -> usize {
-        Self::SIZE
-    }
-
     fn give(&mut self, statement: &Statement, out: &mut [u8]) -> Result<(), GiveFault> {
         if out.len() < SEAL_SIZE {
             return Err(GiveFault::ShortBuffer);
         }
-        let Some(at) = holder_at(statement.group, statement.replica) else {
-            return Err(GiveFault::Spent);
-        };
-        let holder = self.holders[at];
+        let at = holder_at(statement.group, statement.replica).ok_or(GiveFault::Spent)?;
+        let holder = &mut self.holders[at];
         if holder.allowance == 0 {
             return Err(GiveFault::Spent);
         }
-        self.holders[at] = Holder {
-            key: holder.key,
-            allowance: holder.allowance - 1,
-        };
+        holder.allowance -= 1;
         put(out, 0, &seal(&holder.key, statement));
         Ok(())
     }
 
     fn check(&self, statement: &Statement, mark: &[u8]) -> bool {
-        match holder_at(statement.group, statement.replica) {
-            Some(at) => {
-                let holder = self.holders[at];
-                equal_bytes(&seal(&holder.key, statement), mark)
-            }
-            None => false,
-        }
+        holder_at(statement.group, statement.replica)
+            .is_some_and(|at| equal_bytes(&seal(&self.holders[at].key, statement), mark))
     }
 }
 

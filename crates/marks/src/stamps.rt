@@ -17,7 +17,7 @@ pub struct Stamps;
 impl MarkScheme for Stamps {
     const SIZE: usize = STATEMENT_SIZE;
 
-    ghost size = { 36 };
+    ghost SIZE = { 36 };
 
     ghost genuine = { λ _ s mark. bytes_eq (statement_bytes s) mark };
 
@@ -26,10 +26,6 @@ impl MarkScheme for Stamps {
     ghost leaves = { λ before _ after. after ≡ before };
 
     ghost sized = { Prim.search rules };
-
-    fn mark_size() -> usize {
-        Self::SIZE
-    }
 
     fn give(&mut self, statement: &Statement, out: &mut [u8]) -> Result<(), GiveFault> {
         if out.len() < STATEMENT_SIZE {

@@ -30,8 +30,8 @@ impl Replica {
         scheme: &K,
         message: &[u8],
     ) -> Result<Option<Reply>, DeliveryFault>
-        ensures state { view self.new ≡ (acted (config self.old) (K.genuine scheme.now) (view self.old) (parsed K.size message.now)).0 }
-        ensures outcome { outcome result ≡ (acted (config self.old) (K.genuine scheme.now) (view self.old) (parsed K.size message.now)).1 }
+        ensures state { view self.new ≡ (acted (config self.old) (K.genuine scheme.now) (view self.old) (parsed K.SIZE message.now)).0 }
+        ensures outcome { outcome result ≡ (acted (config self.old) (K.genuine scheme.now) (view self.old) (parsed K.SIZE message.now)).1 }
         ensures fixed { config self.new ≡ config self.old }
     {
         if let Ok(body) = read_body(message) {
@@ -41,7 +41,7 @@ impl Replica {
         if let Ok(name) = read_proposal(message) {
             return self.take_proposal(&name);
         }
-        let certificate = read(K::mark_size(), message)?;
+        let certificate = read(K::SIZE, message)?;
         self.take_certificate(scheme, &certificate)?;
         Ok(None)
     }
@@ -54,8 +54,8 @@ impl Replica {
         message: &[u8],
     ) -> Result<Option<Reply>, DeliveryFault>
         requires { self.old.place + 1 < 2 ^ 64 }
-        ensures state { view self.new ≡ (stepped (config self.old) (K.genuine scheme.now) K.size (view self.old) message.now).0 }
-        ensures outcome { outcome result ≡ (stepped (config self.old) (K.genuine scheme.now) K.size (view self.old) message.now).1 }
+        ensures state { view self.new ≡ (stepped (config self.old) (K.genuine scheme.now) K.SIZE (view self.old) message.now).0 }
+        ensures outcome { outcome result ≡ (stepped (config self.old) (K.genuine scheme.now) K.SIZE (view self.old) message.now).1 }
         ensures fixed { config self.new ≡ config self.old }
     {
         self.place += 1;

@@ -1,5 +1,6 @@
 use Rattle.std.proofs.Common.{Ok, Err, sym, refl, ap, ◌∙◌}
 use Rattle.std.proofs.lemmas.Result.{err_from_is_err_and}
+use Rattle.readings.specs.Certificates.{certificate_of}
 use Rattle.readings.proofs.Readers.{read_body, read_proposal}
 use Rattle.votes.specs.declared.fault.DeliveryFault.TheVariants.{Certificate}
 use Rattle.replica.specs.Endings.{certificate_outcome}
@@ -45,7 +46,8 @@ returns-in_err-certificate g c =
     let w = g.K.MarkScheme.SIZE in
     let none = read_body bs (Err c.in_default.field-0) c.in_default.ensures in
     let none' = read_proposal bs (Err c.in_default-read_proposal.field-0) c.in_default-read_proposal.ensures in
-    let e = parsed_other w bs none none' c.in_err-certificate.ensures.0 in
+    let wide = ap (λ n. certificate_of n bs) (sym c.SIZE.ensures) in
+    let e = parsed_other w bs none none' (wide ∙ c.in_err-certificate.ensures.0) in
     let p = err_from_is_err_and c.from_residual.result c.from_residual.ensures.1 in
     record {
       state = state_on C is m w bs _ e _ refl;
@@ -63,7 +65,8 @@ returns-in_err-take_certificate g c =
     let m = view c.args.self.now in
     let w = g.K.MarkScheme.SIZE in
     let none = read_body bs (Err c.in_default.field-0) c.in_default.ensures in
-    let e = parsed_certificate w bs none _ c.in_ok-certificate.ensures in
+    let wide = ap (λ n. certificate_of n bs) (sym c.SIZE.ensures) in
+    let e = parsed_certificate w bs none _ (wide ∙ c.in_ok-certificate.ensures) in
     let p = err_from_is_err_and c.from_residual-in_err-take_certificate.result
     c.from_residual-in_err-take_certificate.ensures.1 in
     record {
@@ -83,7 +86,8 @@ returns g c =
     let m = view c.args.self.now in
     let w = g.K.MarkScheme.SIZE in
     let none = read_body bs (Err c.in_default.field-0) c.in_default.ensures in
-    let e = parsed_certificate w bs none _ c.in_ok-certificate.ensures in
+    let wide = ap (λ n. certificate_of n bs) (sym c.SIZE.ensures) in
+    let e = parsed_certificate w bs none _ (wide ∙ c.in_ok-certificate.ensures) in
     record {
       state = state_on C is m w bs _ e _ c.take_certificate.ensures.state;
       outcome =

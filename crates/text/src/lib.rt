@@ -2,5 +2,5 @@
 
 #![tactic(auto)]
 
-pub mod hex;
+pub mod digits;
 pub mod line;

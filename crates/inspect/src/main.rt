@@ -5,11 +5,9 @@
 
 #![tactic(auto)]
 
-mod words;
-
 use std::io;
 use std::io::Read;
-use text::hex::{Hex, decode};
+use text::digits::{Hex, decode};
 use text::line::split_line;
 use wire::answer::Answer;
 use wire::answer::reader::read_answer;
@@ -17,7 +15,6 @@ use wire::certificate::Certificate;
 use wire::certificate::reader::read_certificate;
 use wire::proposal::read_proposal;
 use wire::{Blocker, Body, Name, Operation, ReadFault, name_of, read_body};
-use words::{ground_word, state_word, vote_word};
 
 /// How many bytes a seal has, and how many a stamp.
 const MARK_SIZES: [usize; 2] = [32, 36];
@@ -51,7 +48,7 @@ fn print_certificate(rt: &impl Print, message: &[u8], certificate: &Certificate)
     let name = certificate.name();
     println!(rt; "certificate, {} bytes", message.len())?;
     println!(rt; "  name {}", Hex(name.as_slice()))?;
-    println!(rt; "  vote {}", vote_word(certificate.vote()))?;
+    println!(rt; "  vote {}", certificate.vote())?;
     for entry in certificate.entries() {
         let group = entry.group;
         let replica = entry.replica;
@@ -65,10 +62,8 @@ fn print_certificate(rt: &impl Print, message: &[u8], certificate: &Certificate)
 
 fn print_blocker(rt: &impl Print, blocker: &Blocker) -> io::Result<()> {
     print!(rt; "  blocker {} groups", Hex(blocker.name.as_slice()))?;
-    for group in 0..8u8 {
-        if blocker.groups.contains(group) {
-            print!(rt; " {group}")?;
-        }
+    for group in (0..8u8).filter(|group| blocker.groups.contains(*group)) {
+        print!(rt; " {group}")?;
     }
     println!(rt; "")
 }
@@ -76,30 +71,27 @@ fn print_blocker(rt: &impl Print, blocker: &Blocker) -> io::Result<()> {
 fn print_answer(rt: &impl Print, message: &[u8], answer: &Answer) -> io::Result<()> {
     let group = answer.group;
     let replica = answer.replica;
-    let ground = answer.ground.byte();
+    let ground = answer.ground;
     println!(rt; "answer, {} bytes", message.len())?;
     println!(rt; "  name {}", Hex(answer.name.as_slice()))?;
     println!(rt;
         "  group {group} replica {replica} mark {}",
         Hex(answer.mark.as_slice())
     )?;
-    println!(rt; "  vote {}", vote_word(answer.vote))?;
-    println!(rt; "  state {}", state_word(answer.state))?;
-    println!(rt; "  ground {ground}: {}", ground_word(&answer.ground))?;
+    println!(rt; "  vote {}", answer.vote)?;
+    println!(rt; "  state {}", answer.state)?;
+    println!(rt; "  ground {}: {ground}", u8::from(ground))?;
     for value in answer.reads.as_slice() {
         println!(rt; "  value {value}")?;
     }
-    match answer.ground.blocker() {
+    match ground.blocker() {
         Some(blocker) => print_blocker(rt, &blocker),
         None => Ok(()),
     }
 }
 
 fn print_fault(rt: &impl Print, fault: ReadFault) -> io::Result<()> {
-    let number = fault.number();
-    match fault {
-        ReadFault::Malformed => println!(rt; "refused {number}: malformed"),
-    }
+    println!(rt; "refused {}: {fault}", u8::from(fault))
 }
 
 // A message with marks, or a message that is malformed.

@@ -1,6 +1,6 @@
 use Rattle.std.proofs.Common.{◌≡◌, ◌≤◌, length, take}
 use Rattle.locks.specs.LocalRows.{read_values}
-use Rattle.votes.specs.Values.{listed}
+use Rattle.lists.specs.Lists.{listed}
 use Rattle.locks.proofs.partition.GroupOperations.read_values.Given as goal
 
 -- the reads so far are listed

@@ -8,7 +8,7 @@ use std::alloc::AllocError;
 
 pub mod items;
 
-/// At most `N` items, in order.
+/// At most `N` items, in order. It is `Copy` where the items are, which the library's `ArrayVec` is not.
 #[derive(Drop)]
 pub struct BoundedList<T, const N: usize> {
     count: usize,

@@ -1,7 +1,7 @@
 -- Records, by the index of each group.
-use Rattle.std.proofs.Common.{◌≡◌, ℕ, zero, suc, ◌*◌, ◌/◌, ◌<◌, ◌≤◌, Bool, true, false, cond, List, [], ◌∷◌, ◌++◌, map, length, get_or, take, set, Some, None, ◌≢◌, ◌==◌, nat_lt, slice_index, sym, refl, ap, ◌∙◌, subst, ⊎_elim, Vec, Global, vec_items, vec_len, vec_capacity, arith, length-set}
+use Rattle.std.proofs.Common.{◌≡◌, ℕ, zero, suc, ◌*◌, ◌/◌, ◌<◌, ◌≤◌, Bool, true, false, cond, List, [], ◌∷◌, ◌++◌, map, length, get_or, take, set, Some, None, ◌≢◌, ◌==◌, nat_lt, slice_index, sym, refl, ap, ap₂, ◌∙◌, subst, ⊎_elim, Vec, Global, vec_items, vec_len, vec_capacity, arith, length-set}
 use Rattle.std.specs.Option.{option_map}
-use Rattle.std.specs.List.{AllByRecursion, slice_get}
+use Rattle.std.specs.List.{All, AllByRecursion, slice_get}
 use Rattle.std.proofs.ByRecursion.{All-get_or}
 use Rattle.std.proofs.Math.Nat.{le-div_iff_mul-le}
 use Rattle.std.proofs.lemmas.List.{append-nil, get_or-set_other, get_or-set_same}
@@ -29,7 +29,7 @@ unfolding entries
 messages_none lead g = refl
 
 -- what holds of each element and its place still does after one of them has become y
-pub each_set : {X : Type 0} (P : ℕ → X → Type 0) (xs : List X) (g : ℕ) (y : X) → g < length xs → P g y
+each_set : {X : Type 0} (P : ℕ → X → Type 0) (xs : List X) (g : ℕ) (y : X) → g < length xs → P g y
     → ((h : ℕ) (d : X) → h < length xs → (h ≢ g) → P h (get_or xs h d))
     → (h : ℕ) (d : X) → h < length (set xs g y) → P h (get_or (set xs g y) h d)
 each_set P xs g y within p ps h d l =
@@ -52,60 +52,14 @@ list_more false true xs xs' ys there e = absurd (false≢true (there refl))
 list_more false false xs xs' ys there e = refl
 
 module _ {lead : ℕ} (t : Records lead) (g : ℕ) where
-  -- a message that fits
-  module _ (m : List ℕ) (fits : tape_fits t g (length m) ≡ true) where
-    pub group_within : g < length t.indexes.items
-    group_within = ltb-true _ _ (and_parts (nat_lt g (groups_of t)) _ fits).0
-
-    pub space : Spacious lead (length t.bytes.items) t.size (length m)
-    space = spacious lead _ _ _ (and_parts (nat_lt g (groups_of t)) _ fits).1
-
-    proper : Proper lead (record { group = g; message = m })
-    proper = record { placed = placed lead g _ t.lead t.single group_within; sized = space.sized }
-
-    -- the bytes with its record
-    module _ (bs : List ℕ) (is : bs ≡ t.bytes.items ++ record_of lead (record { group = g; message = m })) where
-      pub whole_more : OnlyRecords lead bs
-      whole_more = subst (OnlyRecords lead) (sym is) (only_more lead t.lead t.bytes.items t.whole _ proper)
-
-      each_more : (h : ℕ) → starts_of lead bs h ≡ starts_of lead t.bytes.items h ++ cond (g == h) (length t.bytes.items ∷ []) []
-      each_more h = ap (λ l. starts_of lead l h) is ∙ starts_more lead t.lead t.bytes.items t.whole h _ proper
-
-      pub own_more : starts_of lead t.bytes.items g ++ length t.bytes.items ∷ [] ≡ starts_of lead bs g
-      own_more = sym (each_more g ∙ ap (λ b. starts_of lead t.bytes.items g ++ cond b (length t.bytes.items ∷ []) []) (eq-eqb g g refl))
-
-      pub others_more : (h : ℕ) → (h ≢ g) → starts_of lead t.bytes.items h ≡ starts_of lead bs h
-      others_more h ne =
-          sym (each_more h ∙ ap (λ b. starts_of lead t.bytes.items h ++ cond b (length t.bytes.items ∷ []) []) (ne_eqb g h (λ q. ne (sym q)))
-          ∙ append-nil (starts_of lead t.bytes.items h))
-
-    -- each list has the messages that it had, and its own at the end
-    pub lists_more : (t' : Records lead) → TapeLeft t g m t'
-        → (h : ℕ) → tape_lists t' h ≡ tape_lists t h ++ cond (g == h) (m ∷ []) []
-    lists_more t' left h =
-        ap (λ n. cond (nat_lt h n) (messages_of lead t'.bytes.items h) []) left.1
-        ∙ list_more (nat_lt h (groups_of t)) (g == h) _ _ _
-        (λ q. subst (λ k. nat_lt k (groups_of t) ≡ true) (eqb-true g h q) (lt-ltb _ _ group_within))
-        (ap (λ b. messages_of lead b.used h) left.0 ∙ messages_more lead t.lead t.bytes.items t.whole h _ proper)
-
   -- a group that there is not
   pub listed_none : length t.indexes.items ≤ g → tape_lists t g ≡ []
   listed_none l = cond-false _ _ _ (le-ltb _ _ l)
 
   -- the index i of a group that there is
   module _ (i : Vec ℕ Global) (is : i ≡ get_or t.indexes.items g i) (within : g < length t.indexes.items) where
-    pub indexed : vec_items i ≡ starts_of lead t.bytes.items g
+    indexed : vec_items i ≡ starts_of lead t.bytes.items g
     indexed = ap vec_items is ∙ t.indexed g i within
-
-    pub room : (m : List ℕ) → tape_fits t g (length m) ≡ true → vec_len i < vec_capacity i
-    room m fits =
-        let s = space m fits in
-        let one : ℕ = record_size lead 1 in
-        let some : 0 < one = omega arith in
-        let used : one * vec_len i ≤ length t.bytes.items =
-        subst (λ n. one * n ≤ length t.bytes.items) (sym (i.ok.0 ∙ ap length indexed)) (count_starts lead t.lead t.bytes.items t.whole g) in
-        let more : suc (vec_len i) ≤ t.size / one = (le-div_iff_mul-le some).1 (omega (arith, used, s.inside, s.sized.0)) in
-        omega (arith, more, ap vec_capacity is, t.limit g i within)
 
     pub listed : tape_lists t g ≡ map (message_at lead t.bytes.items) i.items
     listed =
@@ -124,5 +78,68 @@ module _ {lead : ℕ} (t : Records lead) (g : ℕ) where
 
       pub started : Starts lead t.bytes.items p
       started =
-          let all = subst (AllByRecursion (Starts lead t.bytes.items)) (sym indexed) (starts_in_place lead t.lead t.bytes.items t.whole g) in
+          let all = subst (AllByRecursion (Starts lead t.bytes.items)) (sym indexed)
+          (starts_in_place lead t.lead t.bytes.items t.whole g) in
           subst (Starts lead t.bytes.items) (sym at) (All-get_or (Starts lead t.bytes.items) i.items n p l all)
+
+  -- a message that fits
+  module _ (m : List ℕ) (fits : tape_fits t g (length m) ≡ true) where
+    parts : (g < length t.indexes.items) × Spacious lead (length t.bytes.items) t.size (length m)
+    parts =
+        let both = and_parts (nat_lt g (groups_of t)) _ fits in
+        (ltb-true _ _ both.0, spacious lead _ _ _ both.1)
+
+    proper : Proper lead (record { group = g; message = m })
+    proper = record { placed = placed lead g _ t.lead t.single parts.0; sized = parts.1.sized }
+
+    -- the bytes with its record
+    module _ (bs : List ℕ) (more : bs ≡ t.bytes.items ++ record_of lead (record { group = g; message = m })) where
+      pub whole_more : OnlyRecords lead bs
+      whole_more = subst (OnlyRecords lead) (sym more) (only_more lead t.lead t.bytes.items t.whole _ proper)
+
+      each_more : (h : ℕ) → starts_of lead bs h ≡ starts_of lead t.bytes.items h ++ cond (g == h) (length t.bytes.items ∷ []) []
+      each_more h = ap (λ l. starts_of lead l h) more ∙ starts_more lead t.lead t.bytes.items t.whole h _ proper
+
+      -- the index of the group with one more start
+      pub indexed_more : (i i' : Vec ℕ Global) (k : ℕ) → i ≡ get_or t.indexes.items g i → k ≡ length t.bytes.items
+          → vec_items i' ≡ vec_items i ++ k ∷ [] → (h : ℕ) (d : Vec ℕ Global)
+          → h < length (set t.indexes.items g i') → vec_items (get_or (set t.indexes.items g i') h d) ≡ starts_of lead bs h
+      indexed_more i i' k is at e =
+          let end = length t.bytes.items ∷ [] in
+          let own : vec_items i' ≡ starts_of lead bs g =
+          e ∙ ap₂ (λ ps p. ps ++ p ∷ []) (indexed i is parts.0) at
+          ∙ sym (each_more g ∙ ap (λ b. starts_of lead t.bytes.items g ++ cond b end []) (eq-eqb g g refl)) in
+          each_set (λ h x. vec_items x ≡ starts_of lead bs h) t.indexes.items g i' parts.0 own
+          (λ h d l ne. t.indexed h d l
+          ∙ sym (each_more h ∙ ap (λ b. starts_of lead t.bytes.items h ++ cond b end []) (ne_eqb g h (λ q. ne (sym q)))
+          ∙ append-nil (starts_of lead t.bytes.items h)))
+
+    module _ (i : Vec ℕ Global) (is : i ≡ get_or t.indexes.items g i) where
+      enough : t.size / record_size lead 1 ≤ vec_capacity i
+      enough = omega (arith, ap vec_capacity is, t.limit g i parts.0)
+
+      pub room : vec_len i < vec_capacity i
+      room =
+          let one : ℕ = record_size lead 1 in
+          let some : 0 < one = omega arith in
+          let used : one * vec_len i ≤ length t.bytes.items =
+          subst (λ n. one * n ≤ length t.bytes.items) (sym (i.ok.0 ∙ ap length (indexed i is parts.0)))
+          (count_starts lead t.lead t.bytes.items t.whole g) in
+          let more : suc (vec_len i) ≤ t.size / one =
+          (le-div_iff_mul-le some).1 (omega (arith, used, parts.1.inside, parts.1.sized.0)) in
+          omega (arith, more, enough)
+
+      pub limit_more : (i' : Vec ℕ Global) → vec_capacity i' ≡ vec_capacity i
+          → All (λ x. t.size / record_size lead 1 ≤ vec_capacity x) (set t.indexes.items g i')
+      limit_more i' e =
+          each_set (λ h x. t.size / record_size lead 1 ≤ vec_capacity x) t.indexes.items g i' parts.0
+          (omega (arith, e, enough)) (λ h d l ne. t.limit h d l)
+
+    -- each list has the messages that it had, and its own at the end
+    pub lists_more : (t' : Records lead) → TapeLeft t g m t'
+        → (h : ℕ) → tape_lists t' h ≡ tape_lists t h ++ cond (g == h) (m ∷ []) []
+    lists_more t' left h =
+        ap (λ n. cond (nat_lt h n) (messages_of lead t'.bytes.items h) []) left.1
+        ∙ list_more (nat_lt h (groups_of t)) (g == h) _ _ _
+        (λ q. subst (λ k. nat_lt k (groups_of t) ≡ true) (eqb-true g h q) (lt-ltb _ _ parts.0))
+        (ap (λ b. messages_of lead b.used h) left.0 ∙ messages_more lead t.lead t.bytes.items t.whole h _ proper)

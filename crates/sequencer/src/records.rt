@@ -25,7 +25,7 @@ pub struct Records<const LEAD: usize> {
     ghost reserved: { size ≤ vec_capacity bytes },
     ghost whole: { OnlyRecords LEAD bytes.items },
     ghost indexed: { (g : ℕ) (d : _) → g < length indexes.items → vec_items (slice_index_or indexes.items g d) ≡ starts_of LEAD bytes.items g },
-    ghost limit: { (g : ℕ) (d : _) → g < length indexes.items → size / record_size LEAD 1 ≤ vec_capacity (slice_index_or indexes.items g d) },
+    ghost limit: { All (λ i. size / record_size LEAD 1 ≤ vec_capacity i) indexes.items },
 }
 
 // So many empty indexes, with space for `limit` starts each.

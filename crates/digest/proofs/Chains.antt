@@ -1,52 +1,30 @@
--- The steps and ends of the loops over rounds and over blocks.
-use Rattle.std.proofs.Common.{◌≡◌, ℕ, zero, suc, ◌+◌, ◌*◌, ◌/◌, ◌<◌, ◌≤◌, List, length, get_or, take, drop, sym, refl, ap, ◌∙◌, ap₂, add-zero, add-suc, add-one, arith}
-use Rattle.std.proofs.lemmas.List.{drop-drop}
-use Rattle.digest.specs.declared.block.State.{State}
-use Rattle.digest.specs.Block.{after_blocks, compress, constants, hashed, round, rounds, schedule, sum}
+-- Chunks of a list, one after another.
+use Rattle.std.proofs.Common.{◌≡◌, ℕ, zero, suc, ◌+◌, ◌*◌, ◌<◌, ◌≤◌, List, ◌++◌, length, get_or, take, drop, refl, ap, ◌∙◌, zero-add, arith}
+use Rattle.std.proofs.lemmas.List.{drop-append-le, drop-drop, length-drop, take-append-le}
+use Rattle.std.specs.Simd.{first_chunks}
 
--- the loop over the rounds: its start, its step, and its end with the sum
-pub rounds_none : (ws : List ℕ) (s : State) → s ≡ rounds ws s 0
-unfolding rounds
-rounds_none ws s = refl
+-- the chunk at an index
+pub chunk_at : (size n i : ℕ) (xs d : List ℕ) → i < n → get_or (first_chunks size n xs) i d ≡ take size (drop (size * i) xs)
+chunk_at size zero i xs d h = absurd (omega arith)
+chunk_at size (suc n) zero xs d h = let e : size * 0 ≡ 0 = omega arith in rw e
+chunk_at size (suc n) (suc i) xs d h =
+    let e : size + size * i ≡ size * suc i = omega arith in
+    chunk_at size n i (drop size xs) d (omega arith) ∙ ap (take size) (drop-drop (size * i) size xs ∙ ap (λ k. drop k xs) e)
 
-pub rounds_more : (ws : List ℕ) (s v r : State) (i : ℕ) → v ≡ rounds ws s i
-    → r ≡ round v (get_or constants i 0) (get_or ws i 0) → r ≡ rounds ws s (i + 1)
-unfolding rounds
-rounds_more ws s v r i so is = rw (add-one, ← so) is
+-- the first m chunks, and then n more
+pub chunks_split : (size m n : ℕ) (xs : List ℕ)
+    → first_chunks size (m + n) xs ≡ first_chunks size m xs ++ first_chunks size n (drop (size * m) xs)
+chunks_split size zero n xs = let e : size * 0 ≡ 0 = omega arith in rw (e, zero-add)
+chunks_split size (suc m) n xs =
+    let e : size + size * m ≡ size * suc m = omega arith in
+    let s : suc m + n ≡ suc (m + n) = omega arith in
+    rw (s, chunks_split size m n (drop size xs), drop-drop (size * m) size xs, e)
 
-pub compress_all : (s v r : State) (w block : List ℕ) (i : ℕ) → w ≡ schedule block → v ≡ rounds w s i
-    → 64 ≤ i → i ≤ 64 → r ≡ sum s v → r ≡ compress s block
-unfolding compress
-compress_all s v r w block i made so low high is =
-    let e : i ≡ 64 = omega arith in
-    is ∙ ap (sum s) (so ∙ ap (rounds w s) e) ∙ ap (λ x. sum s (rounds x s 64)) made
-
--- the first m blocks, and then n more
-pub after_blocks_split : (s : State) (bs : List ℕ) (m n : ℕ)
-    → after_blocks s bs (m + n) ≡ after_blocks (after_blocks s bs m) (drop (64 * m) bs) n
-unfolding after_blocks
-after_blocks_split s bs m zero = ap (after_blocks s bs) (add-zero m)
-after_blocks_split s bs m (suc n) =
-    let e : 64 * (m + n) ≡ 64 * m + 64 * n = omega arith in
-    ap (after_blocks s bs) (add-suc m n)
-    ∙ ap₂ compress (after_blocks_split s bs m n)
-    (ap (take 64) (ap (λ k. drop k bs) e ∙ sym (drop-drop (64 * n) (64 * m) bs)))
-
--- a block is taken off the front of rest, and end is the hash value after all of them
-pub hashed_more : (s r end : State) (rest block after : List ℕ) → hashed s rest ≡ end
-    → (block ≡ take 64 rest) × (after ≡ drop 64 rest) × (length after + 64 ≡ length rest) → r ≡ compress s block
-    → hashed r after ≡ end
-unfolding after_blocks hashed
-hashed_more s r end rest block after so parts is =
-    let k : ℕ = length after / 64 in
-    let e : 1 + k ≡ length rest / 64 = omega arith in
-    let first : r ≡ compress s (take 64 rest) = is ∙ ap (compress s) parts.0 in
-    ap₂ (λ t bs. after_blocks t bs k) first parts.1 ∙ sym (after_blocks_split s rest 1 k)
-    ∙ ap (after_blocks s rest) e ∙ so
-
--- less than a block is left
-pub hashed_all : (s end : State) (rest : List ℕ) → hashed s rest ≡ end → length rest < 64 → s ≡ end
-unfolding after_blocks hashed
-hashed_all s end rest so low =
-    let e : 0 ≡ length rest / 64 = omega arith in
-    ap (after_blocks s rest) e ∙ so
+-- what follows whole chunks does not change them
+pub chunks_front : (size n : ℕ) (xs ys : List ℕ) → size * n ≤ length xs
+    → first_chunks size n (xs ++ ys) ≡ first_chunks size n xs
+chunks_front size zero xs ys h = refl
+chunks_front size (suc n) xs ys h =
+    let long : size ≤ length xs = omega arith in
+    let left : size * n ≤ length (drop size xs) = simp length-drop (omega arith) in
+    rw (take-append-le size xs ys long, drop-append-le size xs ys long, chunks_front size n (drop size xs) ys left)

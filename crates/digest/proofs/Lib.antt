@@ -1,3 +1,4 @@
+pub mod Arrays
 pub mod Schedules
 pub mod Chains
 pub mod Writes

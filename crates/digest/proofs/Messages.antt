@@ -1,45 +1,30 @@
 -- A message in two parts, and the whole functions.
-use Rattle.std.proofs.Common.{◌≡◌, ℕ, zero, suc, ◌+◌, ◌-◌, ◌*◌, ◌/◌, ◌%◌, ◌≤◌, List, ◌++◌, length, take, drop, sym, refl, ap, ◌∙◌, ap₂, zero-add, arith}
-use Rattle.std.proofs.lemmas.List.{append_assoc, drop_all, drop-append-le, length-append, length-drop, take-append-le, take_rest}
+use Rattle.std.proofs.Common.{◌≡◌, ℕ, ◌+◌, ◌*◌, ◌/◌, ◌≤◌, List, ◌++◌, length, drop, sym, refl, ap, ◌∙◌, ap₂, zero-add, arith}
+use Rattle.std.proofs.lemmas.List.{append_assoc, drop_all, drop-append-le, length-append, length-drop}
 use Rattle.digest.specs.declared.block.State.{State}
-use Rattle.digest.specs.Block.{after_blocks, compress, hashed}
+use Rattle.std.proofs.lemmas.List.Sums.{fold-append}
+use Rattle.std.specs.Simd.{first_chunks}
+use Rattle.digest.specs.Block.{compress, hashed}
 use Rattle.digest.specs.Hash.{bytes_of, initial, padding, sha256}
-use Rattle.digest.proofs.Chains.{after_blocks_split}
-
--- what follows whole blocks does not change the hash value after them
-after_blocks_front : (s : State) (xs ys : List ℕ) (n : ℕ) → 64 * n ≤ length xs
-    → after_blocks s (xs ++ ys) n ≡ after_blocks s xs n
-unfolding after_blocks
-after_blocks_front s xs ys zero h = refl
-after_blocks_front s xs ys (suc n) h =
-    let low : 64 * n ≤ length xs = omega arith in
-    ap₂ compress (after_blocks_front s xs ys n low)
-    (ap (take 64) (drop-append-le (64 * n) xs ys low)
-    ∙ take-append-le 64 (drop (64 * n) xs) ys (simp length-drop (omega arith)))
+use Rattle.digest.proofs.Chains.{chunks_front, chunks_split}
 
 -- the whole blocks of xs first, then what they leave over, with ys after it
 hashed_join : (s : State) (xs ys : List ℕ) (q : ℕ) → q ≡ length xs / 64
     → hashed s (xs ++ ys) ≡ hashed (hashed s xs) (drop (64 * q) xs ++ ys)
-unfolding hashed
 hashed_join s xs ys q whole =
     let low : 64 * q ≤ length xs = omega arith in
-    let k : ℕ = length (drop (64 * q) xs ++ ys) / 64 in
-    let e : length (xs ++ ys) / 64 ≡ q + k = simp (length-append, length-drop) (omega arith) in
-    ap (after_blocks s (xs ++ ys)) e ∙ after_blocks_split s (xs ++ ys) q k
-    ∙ ap₂ (λ t bs. after_blocks t bs k) (after_blocks_front s xs ys q low ∙ ap (after_blocks s xs) whole)
-    (drop-append-le (64 * q) xs ys low)
+    let e : length (xs ++ ys) / 64 ≡ q + length (drop (64 * q) xs ++ ys) / 64 = simp (length-append, length-drop) (omega arith) in
+    rw (e, chunks_split 64 q (length (drop (64 * q) xs ++ ys) / 64) (xs ++ ys), chunks_front 64 q xs ys low, drop-append-le (64 * q) xs ys low, ← whole)
+    (fold-append compress s (first_chunks 64 q xs) _)
 
 -- the whole blocks of a message, then the last blocks: what is left over, and the padding
-pub finished : (s s₁ s₂ : State) (rest bytes pad r : List ℕ) (len : ℕ) → s₁ ≡ hashed s rest
-    → take len bytes
-    ≡ take (length rest - (length rest - length rest % 64)) (drop (length rest - length rest % 64) rest) ++ pad
-    → s₂ ≡ hashed s₁ (take len bytes) → r ≡ bytes_of s₂ → r ≡ bytes_of (hashed s (rest ++ pad))
-finished s s₁ s₂ rest bytes pad r len first last second is =
-    let q : ℕ = length rest / 64 in
-    let e : length rest - length rest % 64 ≡ 64 * q = omega arith in
-    let left = take_rest rest (length rest - length rest % 64) ∙ ap (λ n. drop n rest) e in
-    let part : take len bytes ≡ drop (64 * q) rest ++ pad = last ∙ ap (λ xs. xs ++ pad) left in
-    is ∙ ap bytes_of (second ∙ ap₂ hashed first part ∙ sym (hashed_join s rest pad q refl))
+pub finished : (s s₁ s₂ : State) (rest last pad r : List ℕ) → s₁ ≡ hashed s rest
+    → last ≡ drop (length rest / 64 * 64) rest ++ pad → s₂ ≡ hashed s₁ last → r ≡ bytes_of s₂
+    → r ≡ bytes_of (hashed s (rest ++ pad))
+finished s s₁ s₂ rest last pad r first left second is =
+    let e : length rest / 64 * 64 ≡ 64 * (length rest / 64) = omega arith in
+    let part : last ≡ drop (64 * (length rest / 64)) rest ++ pad = left ∙ ap (λ n. drop n rest ++ pad) e in
+    is ∙ ap bytes_of (second ∙ ap₂ hashed first part ∙ sym (hashed_join s rest pad _ refl))
 
 -- a message from its start
 pub sha256_is : (m r : List ℕ) → r ≡ bytes_of (hashed initial (m ++ padding (0 + length m))) → r ≡ sha256 m

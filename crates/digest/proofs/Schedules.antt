@@ -1,8 +1,11 @@
 -- The steps of the loops that fill a schedule.
-use Rattle.std.proofs.Common.{◌≡◌, ℕ, suc, ◌+◌, ◌-◌, ◌<◌, ◌≤◌, List, length, get_or, take, set, sym, ◌∙◌, arith}
-use Rattle.std.proofs.lemmas.List.{length-set, length-take-le, get_or-take, take_more_set, take_all}
-use Rattle.std.proofs.lemmas.List.Edits.{fill_by_more}
+use Rattle.std.proofs.Common.{◌≡◌, ℕ, suc, ◌+◌, ◌-◌, ◌*◌, ◌<◌, ◌≤◌, List, length, get_or, take, drop, set, [], w32, lit<, add-zero, sym, ap, ◌∙◌, arith}
+use Rattle.std.proofs.lemmas.List.{get_or-drop, get_or-take, length-set, length-take-le, take_more_set, take_all}
 use Rattle.std.proofs.lemmas.List.FromFn.{fill_by_all}
+use Rattle.std.proofs.lemmas.List.Edits.{fill_by_more}
+use Rattle.std.specs.Int.{from_be_bytes}
+use Rattle.std.specs.Simd.{first_chunks}
+use Rattle.digest.proofs.Chains.{chunk_at}
 use Rattle.digest.specs.Words.{◌⊞◌, σ₀, σ₁}
 use Rattle.digest.specs.Block.{extended, next, schedule, word_at, words}
 
@@ -10,11 +13,23 @@ use Rattle.digest.specs.Block.{extended, next, schedule, word_at, words}
 abbrev pub Loaded : List ℕ → List ℕ → ℕ → Type 0
 Loaded w block i = (length w ≡ 64) × ((k : ℕ) → k < i → get_or w k 0 ≡ word_at block k)
 
-pub words_more : (w block : List ℕ) (i v : ℕ) → i < 16 → Loaded w block i → v ≡ word_at block i
-    → Loaded (set w i v) block (i + 1)
-words_more w block i v low so is =
+-- the word of the next chunk of the block
+pub words_more : (w block : List ℕ) (chunks : List (List ℕ)) (n i v : ℕ) → chunks ≡ first_chunks 4 n block → i < n
+    → i < 64 → Loaded w block i → v ≡ from_be_bytes w32 (get_or chunks i []) → Loaded (set w i v) block (i + 1)
+words_more w block chunks n i v cut low fits so is =
+    let bs : List ℕ = drop (4 * i) block in
+    let chunk : get_or chunks i [] ≡ take 4 bs = ap (λ xs. get_or xs i []) cut ∙ chunk_at 4 n i block [] low in
+    let word : v ≡ word_at block i =
+    rw (
+      is,
+      chunk,
+      get_or-take 4 bs 0 0 (lit< tt),
+      get_or-take 4 bs 1 0 (lit< tt),
+      get_or-take 4 bs 2 0 (lit< tt),
+      get_or-take 4 bs 3 0 (lit< tt),
+    ) (simp (get_or-drop, add-zero)) in
     let lt : i < length w = omega arith in
-    (length-set w i v ∙ so.0, rw is (fill_by_more (word_at block) w i 0 lt so.1))
+    (length-set w i v ∙ so.0, rw word (fill_by_more (word_at block) w i 0 lt so.1))
 
 pub words_all : (w block : List ℕ) (i : ℕ) → Loaded w block i → 16 ≤ i → take 16 w ≡ words block
 unfolding words

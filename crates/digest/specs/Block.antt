@@ -1,6 +1,7 @@
 -- The hash computation over the blocks of a padded message: FIPS 180-4, sections 4.2.2, 5.2.1 and 6.2.2.
-use Rattle.std.specs.Prelude.{ℕ, zero, suc, ◌+◌, ◌-◌, ◌*◌, ◌/◌, ◌^◌, List, [], ◌∷◌, ◌++◌, map, length, take, drop, slice_index, slice_index_or}
-use Rattle.std.specs.List.{range_with_len}
+use Rattle.std.specs.Prelude.{ℕ, zero, suc, ◌+◌, ◌-◌, ◌*◌, ◌/◌, ◌^◌, List, [], ◌∷◌, ◌++◌, map, length, fold, slice_index, slice_index_or}
+use Rattle.std.specs.List.{range_with_len, zip}
+use Rattle.std.specs.Simd.{first_chunks}
 use Rattle.digest.specs.declared.block.State.{State}
 use Rattle.digest.specs.Words.{◌⊞◌, ch, maj, Σ₀, Σ₁, σ₀, σ₁}
 
@@ -42,19 +43,18 @@ unfoldable pub schedule : List ℕ → List ℕ
 schedule block = extended (words block) 48
 
 -- the working variables after a round with the constant k and the word w of the schedule
-unfoldable pub round : State → ℕ → ℕ → State
+abbrev pub round : State → ℕ → ℕ → State
 round s k w =
     let t₁ : ℕ = s.h ⊞ Σ₁ s.e ⊞ ch s.e s.f s.g ⊞ k ⊞ w in
     let t₂ : ℕ = Σ₀ s.a ⊞ maj s.a s.b s.c in
     record { a = t₁ ⊞ t₂; b = s.a; c = s.b; d = s.c; e = s.d ⊞ t₁; f = s.e; g = s.f; h = s.g }
 
--- the working variables after the first i rounds over a schedule ws
-unfoldable pub rounds : List ℕ → State → ℕ → State
-rounds ws s zero = s
-rounds ws s (suc i) = round (rounds ws s i) (slice_index constants i) (slice_index ws i)
+-- the working variables after the rounds over a schedule ws
+abbrev pub rounds : List ℕ → State → State
+rounds ws s = fold (λ v p. round v p.0 p.1) s (zip constants ws)
 
 -- the sum of two states, word by word
-unfoldable pub sum : State → State → State
+abbrev pub sum : State → State → State
 sum s t = record {
   a = s.a ⊞ t.a;
   b = s.b ⊞ t.b;
@@ -67,14 +67,9 @@ sum s t = record {
 }
 
 -- the hash value after a block, from the hash value before it
-unfoldable pub compress : State → List ℕ → State
-compress s block = sum s (rounds (schedule block) s 64)
+abbrev pub compress : State → List ℕ → State
+compress s block = sum s (rounds (schedule block) s)
 
--- the hash value after the first n blocks of bs
-unfoldable pub after_blocks : State → List ℕ → ℕ → State
-after_blocks s bs zero = s
-after_blocks s bs (suc n) = compress (after_blocks s bs n) (take 64 (drop (64 * n) bs))
-
--- the hash value after all the whole blocks of bs
-unfoldable pub hashed : State → List ℕ → State
-hashed s bs = after_blocks s bs (length bs / 64)
+-- the hash value after the whole blocks of bs
+abbrev pub hashed : State → List ℕ → State
+hashed s bs = fold compress s (first_chunks 64 (length bs / 64) bs)

@@ -1,5 +1,5 @@
 -- The functions of FIPS 180-4 on 32-bit words, sections 3.2 and 4.1.2.
-use Rattle.std.specs.Prelude.{ℕ, ◌+◌, ◌-◌, ◌*◌, ◌/◌, ◌%◌, ◌^◌, bit_and, bit_or, bit_xor}
+use Rattle.std.specs.Prelude.{ℕ, ◌+◌, ◌-◌, ◌*◌, ◌/◌, ◌%◌, ◌^◌, ◌<◌, bit_and, bit_or, bit_xor}
 
 infixl 65 ◌⊞◌
 -- addition of words, modulo 2 ^ 32
@@ -26,16 +26,26 @@ ch x y z = bit_xor (bit_and x y) (bit_and (complement x) z)
 abbrev pub maj : ℕ → ℕ → ℕ → ℕ
 maj x y z = bit_xor (bit_xor (bit_and x y) (bit_and x z)) (bit_and y z)
 
--- the two functions of a round
+-- a number of bits by which a word may be rotated
+abbrev pub IsTurn : ℕ → Type 0
+IsTurn k = (0 < k) × (k < 32)
+
+-- the functions of a round: a word rotated by a, by b and by c bits
+abbrev pub big_sigma : ℕ → ℕ → ℕ → ℕ → ℕ
+big_sigma a b c x = bit_xor (bit_xor (rotr a x) (rotr b x)) (rotr c x)
+
 abbrev pub Σ₀ : ℕ → ℕ
-Σ₀ x = bit_xor (bit_xor (rotr 2 x) (rotr 13 x)) (rotr 22 x)
+Σ₀ = big_sigma 2 13 22
 
 abbrev pub Σ₁ : ℕ → ℕ
-Σ₁ x = bit_xor (bit_xor (rotr 6 x) (rotr 11 x)) (rotr 25 x)
+Σ₁ = big_sigma 6 11 25
 
--- the two functions of the message schedule
+-- the functions of the message schedule: a word rotated by a and by b bits, and shifted by c
+abbrev pub small_sigma : ℕ → ℕ → ℕ → ℕ → ℕ
+small_sigma a b c x = bit_xor (bit_xor (rotr a x) (rotr b x)) (shr c x)
+
 abbrev pub σ₀ : ℕ → ℕ
-σ₀ x = bit_xor (bit_xor (rotr 7 x) (rotr 18 x)) (shr 3 x)
+σ₀ = small_sigma 7 18 3
 
 abbrev pub σ₁ : ℕ → ℕ
-σ₁ x = bit_xor (bit_xor (rotr 17 x) (rotr 19 x)) (shr 10 x)
+σ₁ = small_sigma 17 19 10

@@ -1,11 +1,11 @@
 //! The hash computation over the blocks of a message: FIPS 180-4, sections 4.2.2, 5.2.1 and 6.2.2.
 
 ghost use Rattle.std.specs.Prelude.{◌≡◌, take};
-ghost use Rattle.digest.specs.Block.{compress, hashed, round, schedule, sum, words};
+ghost use Rattle.digest.specs.Block.{compress, hashed, round, rounds, schedule, sum, words};
 
-use crate::words::{big_sigma0, big_sigma1, choose, majority, small_sigma0, small_sigma1};
+use crate::words::{big_sigma, choose, majority, small_sigma};
 
-/// Eight words: a hash value, or the working variables a to h within a block.
+/// Eight words: a hash value, or the working variables within a block, by the letters that the standard gives them.
 #[derive(Clone, Copy)]
 pub struct State {
     pub a: u32,
@@ -36,11 +36,11 @@ fn round(s: State, k: u32, w: u32) -> State
 {
     let t1 = s
         .h
-        .wrapping_add(big_sigma1(s.e))
+        .wrapping_add(big_sigma::<6, 11, 25>(s.e))
         .wrapping_add(choose(s.e, s.f, s.g))
         .wrapping_add(k)
         .wrapping_add(w);
-    let t2 = big_sigma0(s.a).wrapping_add(majority(s.a, s.b, s.c));
+    let t2 = big_sigma::<2, 13, 22>(s.a).wrapping_add(majority(s.a, s.b, s.c));
     State {
         a: t1.wrapping_add(t2),
         b: s.a,
@@ -69,18 +69,14 @@ fn sum(s: State, t: State) -> State
     }
 }
 
-// A message schedule of which the first 16 words are made, those of the block.
+// A message schedule of which the first 16 words are made, those of the block. To make the 16 by `array::from_fn` and
+// copy them here is slower by a fiftieth.
 fn load(block: &[u8; 64]) -> [u32; 64]
     ensures { take 16 result ≡ words block.now }
 {
     let mut w = [0; 64];
-    for i in 0..16 {
-        w[i] = u32::from_be_bytes([
-            block[4 * i],
-            block[4 * i + 1],
-            block[4 * i + 2],
-            block[4 * i + 3],
-        ]);
+    for (i, bytes) in block.as_chunks::<4>().0.iter().enumerate() {
+        w[i] = u32::from_be_bytes(*bytes);
     }
     w
 }
@@ -90,9 +86,10 @@ fn schedule(block: &[u8; 64]) -> [u32; 64]
     ensures { result ≡ schedule block.now }
 {
     let mut w = load(block);
+    // Each further word is made of four earlier ones, so the loop goes by an index.
     for t in 16..64 {
-        let far = small_sigma0(w[t - 15]);
-        let near = small_sigma1(w[t - 2]);
+        let far = small_sigma::<7, 18, 3>(w[t - 15]);
+        let near = small_sigma::<17, 19, 10>(w[t - 2]);
         w[t] = near
             .wrapping_add(w[t - 7])
             .wrapping_add(far)
@@ -101,27 +98,26 @@ fn schedule(block: &[u8; 64]) -> [u32; 64]
     w
 }
 
+// The working variables after the 64 rounds over the schedule `w`.
+#[tactic(auto, unfolding(crate::specs::Block::constants))]
+fn rounds(start: State, w: &[u32; 64]) -> State
+    ensures { result ≡ rounds w.now start }
+{
+    let pairs = ROUND_CONSTANTS.iter().zip(w);
+    pairs.fold(start, |s, (k, w)| round(s, *k, *w))
+}
+
 // The hash value after the block, from the hash value `s` before it.
 fn compress(s: State, block: &[u8; 64]) -> State
     ensures { result ≡ compress s block.now }
 {
-    let w = schedule(block);
-    let mut v = s;
-    for i in 0..64 {
-        v = round(v, ROUND_CONSTANTS[i], w[i]);
-    }
-    sum(s, v)
+    sum(s, rounds(s, &schedule(block)))
 }
 
 /// The hash value after the whole blocks of `bytes`; what is left over is not read.
 pub fn hash_blocks(start: State, bytes: &[u8]) -> State
     ensures { result ≡ hashed start bytes.now }
 {
-    let mut s = start;
-    let mut rest = bytes;
-    while let Some((block, after)) = rest.split_first_chunk::<64>() {
-        s = compress(s, block);
-        rest = after;
-    }
-    s
+    let (blocks, _) = bytes.as_chunks();
+    blocks.iter().fold(start, |s, block| compress(s, block))
 }

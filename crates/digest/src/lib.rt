@@ -17,6 +17,7 @@ ghost use Rattle.digest.specs.Vectors.{PublishedVectors};
 
 use block::hash_blocks;
 use message::{INITIAL, finish};
+use octets::put;
 
 /// The SHA-256 of the message.
 pub fn sha256(message: &[u8]) -> [u8; 32]
@@ -35,11 +36,9 @@ const OUTER_PAD: u8 = 0x5c;
 fn key_block(key: &[u8; 32], mask: u8) -> [u8; 64]
     ensures { result ≡ keyed key.now mask }
 {
-    let mut block = [mask; 64];
-    for i in 0..32 {
-        block[i] = key[i] ^ mask;
-    }
-    block
+    let mut block = [0; 64];
+    put(&mut block, 0, key);
+    block.map(|byte| byte ^ mask)
 }
 
 // The SHA-256 of the key's block followed by the message.

@@ -1,6 +1,6 @@
 //! A message from its first block to its digest: FIPS 180-4, sections 5.1.1, 5.3.3 and 6.2.
 
-ghost use Rattle.std.specs.Prelude.{◌≡◌, ◌+◌, ◌-◌, ◌%◌, ◌^◌, ◌<◌, ◌≤◌, ◌++◌, length, take};
+ghost use Rattle.std.specs.Prelude.{◌≡◌, ◌+◌, ◌-◌, ◌%◌, ◌^◌, ◌<◌, ◌++◌, length};
 ghost use Rattle.digest.specs.Block.{hashed};
 ghost use Rattle.digest.specs.Hash.{bytes_of, padding};
 
@@ -25,17 +25,8 @@ fn to_bytes(s: State) -> [u8; 32]
 {
     let words = [s.a, s.b, s.c, s.d, s.e, s.f, s.g, s.h];
     let mut out = [0; 32];
-    for i in 0..8 {
-        put(&mut out, 4 * i, &words[i].to_be_bytes());
-    }
+    out.copy_from_slice(words.map(u32::to_be_bytes).as_flattened());
     out
-}
-
-// The last one or two blocks of a padded message, in the first `len` bytes.
-#[derive(Drop)]
-struct Tail {
-    bytes: [u8; 128],
-    len: usize,
 }
 
 // How long `rest` bytes are with their padding, which is nine bytes and zeros up to the end of a block.
@@ -46,18 +37,19 @@ fn padded_len(rest: usize) -> usize
     if rest < 56 { 64 } else { 128 }
 }
 
-// Pads `rest`, what the whole blocks of a message of `total` bytes leave over.
-fn pad(rest: &[u8], total: u64) -> Tail
+// The last one or two blocks of a padded message of `total` bytes, written into `room`: `rest`, what the whole blocks
+// leave over, and the padding.
+fn pad<'a>(rest: &[u8], total: u64, room: &'a mut [u8; 128]) -> &'a [u8]
     requires { length rest.now ≡ total % 64 }
-    ensures { (result.len ≤ 128) × (take result.len result.bytes ≡ rest.now ++ padding total) }
+    ensures { result.now ≡ rest.now ++ padding total }
 {
     let n = rest.len();
     let len = padded_len(n);
-    let mut bytes = [0; 128];
-    put(&mut bytes, 0, rest);
-    bytes[n] = 0x80;
-    put_u64(&mut bytes, len - 8, total.wrapping_mul(8));
-    Tail { bytes, len }
+    *room = [0; 128];
+    put(room, 0, rest);
+    room[n] = 0x80;
+    put_u64(room, len - 8, total.wrapping_mul(8));
+    &room[..len]
 }
 
 /// The digest of a message, from the hash value after its first `before` bytes and the rest of the message.
@@ -65,7 +57,8 @@ pub fn finish(s: State, before: u64, rest: &[u8]) -> [u8; 32]
     requires { (before % 64 ≡ 0) × (before < 2 ^ 62) }
     ensures { result ≡ bytes_of (hashed s (rest.now ++ padding (before + length rest.now))) }
 {
-    let whole = rest.len() - rest.len() % 64;
-    let last = pad(&rest[whole..], before + rest.len() as u64);
-    to_bytes(hash_blocks(hash_blocks(s, rest), &last.bytes[..last.len]))
+    let (_, left) = rest.as_chunks::<64>();
+    let mut room = [0; 128];
+    let last = pad(left, before + rest.len() as u64, &mut room);
+    to_bytes(hash_blocks(hash_blocks(s, rest), last))
 }

@@ -8,16 +8,20 @@ use crate::{club_register_sha256, hmac, sha256};
 use octets::put;
 use std::test::Fail;
 
+// The two digits of a byte.
+fn byte_digits(byte: u8) -> [u8; 2]
+    ensures { result ≡ digits byte }
+{
+    let of = b"0123456789abcdef";
+    [of[usize::from(byte / 16)], of[usize::from(byte % 16)]]
+}
+
 // The digest in hexadecimal.
 fn hex(digest: &[u8; 32]) -> [u8; 64]
     ensures { result ≡ flat_map digits digest.now }
 {
-    let of = b"0123456789abcdef";
     let mut text = [0; 64];
-    for i in 0..32 {
-        let byte = usize::from(digest[i]);
-        put(&mut text, 2 * i, &[of[byte / 16], of[byte % 16]]);
-    }
+    text.copy_from_slice(digest.map(byte_digits).as_flattened());
     text
 }
 
@@ -33,20 +37,30 @@ fn filled(key: &[u8]) -> [u8; 32]
 
 #[test]
 fn sha256_of_published_texts(rt: HostRuntime) {
-    let none = b"e3b0c44298fc1c149afbf4c8996fb92427ae41e4649b934ca495991b7852b855";
-    assert_eq!(rt; hex(&sha256(b"")), *none);
-    let short = b"ba7816bf8f01cfea414140de5dae2223b00361a396177a9cb410ff61f20015ad";
-    assert_eq!(rt; hex(&sha256(b"abc")), *short);
-    let text = b"abcdbcdecdefdefgefghfghighijhijkijkljklmklmnlmnomnopnopq";
-    let of_56 = b"248d6a61d20638b8e5c026930c3e6039a33ce45964ff2167f6ecedd419db06c1";
-    assert_eq!(rt; hex(&sha256(text)), *of_56);
-    let text =
+    let last =
         b"abcdefghbcdefghicdefghijdefghijkefghijklfghijklmghijklmnhijklmnoijklmnopjklmnopqklmnopqrlmnopqrsmnopqrstnopqrstu";
-    let of_112 = b"cf5b16a778af8380036ce59e7b0492370b249b11e8f07a51afac45037afee9d1";
-    assert_eq!(rt; hex(&sha256(text)), *of_112);
+    let of_last = b"cf5b16a778af8380036ce59e7b0492370b249b11e8f07a51afac45037afee9d1";
+    let cases = [
+        (
+            b"".as_slice(),
+            b"e3b0c44298fc1c149afbf4c8996fb92427ae41e4649b934ca495991b7852b855",
+        ),
+        (
+            b"abc",
+            b"ba7816bf8f01cfea414140de5dae2223b00361a396177a9cb410ff61f20015ad",
+        ),
+        (
+            b"abcdbcdecdefdefgefghfghighijhijkijkljklmklmnlmnomnopnopq",
+            b"248d6a61d20638b8e5c026930c3e6039a33ce45964ff2167f6ecedd419db06c1",
+        ),
+        (last, of_last),
+    ];
+    for (text, digest) in cases {
+        assert_eq!(rt; hex(&sha256(text)), *digest);
+    }
     let mut written = [0; 32];
-    club_register_sha256(text, &mut written);
-    assert_eq!(rt; hex(&written), *of_112);
+    club_register_sha256(last, &mut written);
+    assert_eq!(rt; hex(&written), *of_last);
 }
 
 // Lengths about the ends of blocks, and the million of FIPS 180-4.
@@ -77,21 +91,41 @@ fn sha256_of_repeated_letters(rt: HostRuntime) -> Result<(), Fail> {
 // Test cases 1 to 5 of RFC 4231, which has the first 16 bytes of the fifth, and a key that needs no filling.
 #[test]
 fn hmac_of_published_keys(rt: HostRuntime) {
-    let first = b"b0344c61d8db38535ca8afceaf0bf12b881dc200c9833da726e9376c2e32cff7";
-    assert_eq!(rt; hex(&hmac(&filled(&[0x0b; 20]), b"Hi There")), *first);
-    let made = hmac(&filled(b"Jefe"), b"what do ya want for nothing?");
-    let second = b"5bdcc146bf60754e6a042426089575c75a003f089d2739839dec58b964ec3843";
-    assert_eq!(rt; hex(&made), *second);
-    let third = b"773ea91e36800e46854db8ebd09181a72959098b3ef8c122d9635514ced565fe";
-    assert_eq!(rt; hex(&hmac(&filled(&[0xaa; 20]), &[0xdd; 50])), *third);
-    let key =
+    let counted =
         b"\x01\x02\x03\x04\x05\x06\x07\x08\x09\x0a\x0b\x0c\x0d\x0e\x0f\x10\x11\x12\x13\x14\x15\x16\x17\x18\x19";
-    let fourth = b"82558a389a443c0ea4cc819899f2083a85f0faa3e578f8077a2e3ff46729665b";
-    assert_eq!(rt; hex(&hmac(&filled(key), &[0xcd; 50])), *fourth);
-    let made = hmac(&filled(&[0x0c; 20]), b"Test With Truncation");
-    let fifth = b"a3b6167473100ee06e0c796c2955552bfa6f7c0a6a8aef8b93f860aab0cd20c5";
-    assert_eq!(rt; hex(&made), *fifth);
-    let made = hmac(b"0123456789abcdefghijklmnopqrstuv", b"a key of 32 bytes");
-    let full = b"6ef659fab82567a1b41c1a57f066c0ba73929569518bb3ce9d5d41ecf31fe2e7";
-    assert_eq!(rt; hex(&made), *full);
+    let cases = [
+        (
+            filled(&[0x0b; 20]),
+            b"Hi There".as_slice(),
+            b"b0344c61d8db38535ca8afceaf0bf12b881dc200c9833da726e9376c2e32cff7",
+        ),
+        (
+            filled(b"Jefe"),
+            b"what do ya want for nothing?",
+            b"5bdcc146bf60754e6a042426089575c75a003f089d2739839dec58b964ec3843",
+        ),
+        (
+            filled(&[0xaa; 20]),
+            &[0xdd; 50],
+            b"773ea91e36800e46854db8ebd09181a72959098b3ef8c122d9635514ced565fe",
+        ),
+        (
+            filled(counted),
+            &[0xcd; 50],
+            b"82558a389a443c0ea4cc819899f2083a85f0faa3e578f8077a2e3ff46729665b",
+        ),
+        (
+            filled(&[0x0c; 20]),
+            b"Test With Truncation",
+            b"a3b6167473100ee06e0c796c2955552bfa6f7c0a6a8aef8b93f860aab0cd20c5",
+        ),
+        (
+            *b"0123456789abcdefghijklmnopqrstuv",
+            b"a key of 32 bytes",
+            b"6ef659fab82567a1b41c1a57f066c0ba73929569518bb3ce9d5d41ecf31fe2e7",
+        ),
+    ];
+    for (key, message, digest) in cases {
+        assert_eq!(rt; hex(&hmac(&key, message)), *digest);
+    }
 }

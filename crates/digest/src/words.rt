@@ -1,7 +1,7 @@
 //! The functions of FIPS 180-4 on 32-bit words, section 4.1.2.
 
 ghost use Rattle.std.specs.Prelude.{◌≡◌};
-ghost use Rattle.digest.specs.Words.{ch, maj, Σ₀, Σ₁, σ₀, σ₁};
+ghost use Rattle.digest.specs.Words.{IsTurn, big_sigma, ch, maj, small_sigma};
 
 /// Ch: each bit of `x` chooses between the bits of `y` and `z`.
 pub fn choose(x: u32, y: u32, z: u32) -> u32
@@ -17,26 +17,18 @@ pub fn majority(x: u32, y: u32, z: u32) -> u32
     (x & y) ^ (x & z) ^ (y & z)
 }
 
-pub fn big_sigma0(x: u32) -> u32
-    ensures { result ≡ Σ₀ x }
+/// The function Σ of a round that rotates by `A`, `B` and `C` bits.
+pub fn big_sigma<const A: u32, const B: u32, const C: u32>(x: u32) -> u32
+    requires { IsTurn A × IsTurn B × IsTurn C }
+    ensures { result ≡ big_sigma A B C x }
 {
-    x.rotate_right(2) ^ x.rotate_right(13) ^ x.rotate_right(22)
+    x.rotate_right(A) ^ x.rotate_right(B) ^ x.rotate_right(C)
 }
 
-pub fn big_sigma1(x: u32) -> u32
-    ensures { result ≡ Σ₁ x }
+/// The function σ of the message schedule that rotates by `A` and `B` bits and shifts by `C`.
+pub fn small_sigma<const A: u32, const B: u32, const C: u32>(x: u32) -> u32
+    requires { IsTurn A × IsTurn B × IsTurn C }
+    ensures { result ≡ small_sigma A B C x }
 {
-    x.rotate_right(6) ^ x.rotate_right(11) ^ x.rotate_right(25)
-}
-
-pub fn small_sigma0(x: u32) -> u32
-    ensures { result ≡ σ₀ x }
-{
-    x.rotate_right(7) ^ x.rotate_right(18) ^ (x >> 3)
-}
-
-pub fn small_sigma1(x: u32) -> u32
-    ensures { result ≡ σ₁ x }
-{
-    x.rotate_right(17) ^ x.rotate_right(19) ^ (x >> 10)
+    x.rotate_right(A) ^ x.rotate_right(B) ^ (x >> C)
 }

@@ -1,13 +1,12 @@
-use Rattle.std.proofs.Common.{arith}
-use Rattle.digest.proofs.Writes.{masked_more, masked_all}
+use Rattle.std.proofs.Common.{rules, ap, ◌∙◌, map, zero-add, arith}
+use lib.Bits.{bit_xor}
+use Rattle.std.proofs.lemmas.List.{drop-replicate}
+use Rattle.digest.specs.Hash.{keyed}
+use Rattle.digest.proofs.Arrays.{mapped}
 use Rattle.digest.proofs.key_block.Goals as goal
 
-pub loop-i-preserved : goal.loop-i-preserved
-loop-i-preserved c =
-    masked_more c.loop-i.block c.args.key.now c.args.mask c.loop-i.i c.told-key
-    c.loop-i-test.true c.loop-i.invariant
-
 pub returns : goal.returns
+unfolding keyed
 returns c =
-    masked_all c.loop-i.block c.args.key.now c.args.mask c.loop-i.i c.told-key (omega arith)
-    (omega arith) c.loop-i.invariant
+    mapped _ _ (λ k. bit_xor k c.args.mask) (λ x y q call. search rules) c.put.new.out _ 64 (omega arith) c.map.ensures.items
+    ∙ ap (map (λ k. bit_xor k c.args.mask)) (simp (c.put.ensures.after, drop-replicate, zero-add, c.told-key))

@@ -12,7 +12,7 @@ pub loop-t-preserved : goal.loop-t-preserved
 loop-t-preserved c = (
   length-set _ _ _ ∙ c.loop-t.invariant.0,
   extended_more _ c.loop-t.w c.loop-t.t _ (omega arith) (omega arith) c.loop-t.invariant.1
-      (simp (c.small_sigma1-near.ensures, c.small_sigma0-far.ensures)),
+      (simp (c.small_sigma-near.ensures, c.small_sigma-far.ensures)),
 )
 
 pub returns : goal.returns

@@ -3,8 +3,6 @@ use Rattle.digest.proofs.Writes.{padded}
 use Rattle.digest.proofs.message.pad.Goals as goal
 
 pub returns : goal.returns
-returns c = (
-  omega arith,
-  padded c.args.rest.now c.put.new.out c.put_u64.new.out c.padded_len-len.result c.args.total
-      c.padded_len-len.ensures (omega arith) c.requires c.put.ensures.after c.put_u64.ensures.after,
-)
+returns c =
+    padded c.args.rest.now c.put.new.out c.put_u64.new.out c.padded_len-len.result c.args.total
+    c.padded_len-len.ensures (omega arith) c.requires c.put.ensures.after c.put_u64.ensures.after

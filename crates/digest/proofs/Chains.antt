@@ -13,18 +13,18 @@ chunk_at size (suc n) (suc i) xs d h =
 
 -- the first m chunks, and then n more
 pub chunks_split : (size m n : ℕ) (xs : List ℕ)
-    → first_chunks size (m + n) xs ≡ first_chunks size m xs ++ first_chunks size n (drop (size * m) xs)
-chunks_split size zero n xs = let e : size * 0 ≡ 0 = omega arith in rw (e, zero-add)
+    → first_chunks size (m + n) xs ≡ first_chunks size m xs ++ first_chunks size n (drop (m * size) xs)
+chunks_split size zero n xs = let e : 0 * size ≡ 0 = omega arith in rw (e, zero-add)
 chunks_split size (suc m) n xs =
-    let e : size + size * m ≡ size * suc m = omega arith in
+    let e : size + m * size ≡ suc m * size = omega arith in
     let s : suc m + n ≡ suc (m + n) = omega arith in
-    rw (s, chunks_split size m n (drop size xs), drop-drop (size * m) size xs, e)
+    rw (s, chunks_split size m n (drop size xs), drop-drop (m * size) size xs, e)
 
 -- what follows whole chunks does not change them
-pub chunks_front : (size n : ℕ) (xs ys : List ℕ) → size * n ≤ length xs
+pub chunks_front : (size n : ℕ) (xs ys : List ℕ) → n * size ≤ length xs
     → first_chunks size n (xs ++ ys) ≡ first_chunks size n xs
 chunks_front size zero xs ys h = refl
 chunks_front size (suc n) xs ys h =
     let long : size ≤ length xs = omega arith in
-    let left : size * n ≤ length (drop size xs) = simp length-drop (omega arith) in
+    let left : n * size ≤ length (drop size xs) = simp length-drop (omega arith) in
     rw (take-append-le size xs ys long, drop-append-le size xs ys long, chunks_front size n (drop size xs) ys left)

@@ -1,5 +1,5 @@
 pub mod Arrays
 pub mod Schedules
 pub mod Chains
-pub mod Writes
+pub mod Padding
 pub mod Messages

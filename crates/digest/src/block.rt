@@ -99,7 +99,6 @@ fn schedule(block: &[u8; 64]) -> [u32; 64]
 }
 
 // The working variables after the 64 rounds over the schedule `w`.
-#[tactic(auto, unfolding(crate::specs::Block::constants))]
 fn rounds(start: State, w: &[u32; 64]) -> State
     ensures { result ≡ rounds w.now start }
 {

@@ -1,5 +1,5 @@
 use Rattle.std.proofs.Common.{arith}
-use Rattle.digest.proofs.Writes.{padded}
+use Rattle.digest.proofs.Padding.{padded}
 use Rattle.digest.proofs.message.pad.Goals as goal
 
 pub returns : goal.returns

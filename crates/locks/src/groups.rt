@@ -56,6 +56,7 @@ impl GroupOperations<'_> {
     pub fn group_set(&self) -> GroupSet
         ensures { result.bits ≡ groups_byte self.now.partition.groups self.now.operations.now }
     {
+        // A loop: in a chain over the groups, the bounds of the shift and of the sum are left to prove.
         let mut bits = 0;
         for group in 0..MOST_GROUPS {
             if self.names_group(group) {

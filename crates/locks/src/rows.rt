@@ -14,14 +14,6 @@ use table::row::Row;
 use table::{change, get};
 use votes::values::Values;
 
-// Whether the operation is at a key of the group that has no row.
-fn lacks(partition: &Partition, rows: &[Row<u32, u64>], operation: &Operation) -> bool
-    requires { rising by_number rows.now ≡ true }
-    ensures { result ≡ is_local partition.now.groups partition.now.group operation.now && not (is_some (value_at rows.now (key_of operation.now))) }
-{
-    partition.is_local(operation) && get(rows, &operation.key()).is_none()
-}
-
 // Whether the operation compares with another value than this.
 fn is_different(row: Option<u64>, operation: &Operation) -> bool
     ensures { result ≡ differs row operation.now }
@@ -32,23 +24,15 @@ fn is_different(row: Option<u64>, operation: &Operation) -> bool
     }
 }
 
-// Whether the operation is a compare at a key of the group that is not equal.
-fn is_refuted(partition: &Partition, rows: &[Row<u32, u64>], operation: &Operation) -> bool
-    requires { rising by_number rows.now ≡ true }
-    ensures { result ≡ is_local partition.now.groups partition.now.group operation.now && differs (value_at rows.now (key_of operation.now)) operation.now }
-{
-    partition.is_local(operation) && is_different(get(rows, &operation.key()), operation)
-}
-
 impl GroupOperations<'_> {
     /// Whether a key of the group that the operations name has no row.
     pub fn lacks_row(&self, rows: &[Row<u32, u64>]) -> bool
         requires { rising by_number rows.now ≡ true }
         ensures { result ≡ lacks_row self.now.partition.groups self.now.partition.group rows.now self.now.operations.now }
     {
-        self.operations
-            .iter()
-            .any(|operation| lacks(&self.partition, rows, operation))
+        self.operations.iter().any(|operation| {
+            self.partition.is_local(operation) && get(rows, &operation.key()).is_none()
+        })
     }
 
     /// Whether a compare at a key of the group is not equal.
@@ -56,9 +40,10 @@ impl GroupOperations<'_> {
         requires { rising by_number rows.now ≡ true }
         ensures { result ≡ is_unequal self.now.partition.groups self.now.partition.group rows.now self.now.operations.now }
     {
-        self.operations
-            .iter()
-            .any(|operation| is_refuted(&self.partition, rows, operation))
+        self.operations.iter().any(|operation| {
+            self.partition.is_local(operation)
+                && is_different(get(rows, &operation.key()), operation)
+        })
     }
 
     /// The values of the reads at keys of the group, in the order of the operations.
@@ -66,6 +51,7 @@ impl GroupOperations<'_> {
         requires { (rising by_number rows.now ≡ true) × (length self.now.operations.now ≤ most_values) }
         ensures { listed result ≡ read_values self.now.partition.groups self.now.partition.group rows.now self.now.operations.now }
     {
+        // A loop, since a list with no heap cannot be collected into.
         let mut values = Values::new(0);
         for operation in self.operations {
             if self.partition.is_local(operation) && operation.is_read() {

@@ -10,24 +10,17 @@ use votes::entry::Entry;
 use votes::statement::Statement;
 use votes::vote::Vote;
 
-// Whether the entry's mark is genuine for this vote on the name.
-fn is_genuine<K: MarkScheme>(scheme: &K, name: &Name, vote: Vote, entry: &Entry) -> bool
-    ensures { result ≡ K.genuine scheme.now (stated name.now vote (shown entry.now)) (mark_bytes entry.now.mark) }
-{
-    let statement = Statement {
-        group: entry.group,
-        replica: entry.replica,
-        vote: vote.into(),
-        name: *name,
-    };
-    scheme.check(&statement, entry.mark.as_slice())
-}
-
 /// Whether every entry's mark is genuine for this vote on the name.
 pub fn are_genuine<K: MarkScheme>(scheme: &K, name: &Name, vote: Vote, entries: &[Entry]) -> bool
     ensures { result ≡ all_genuine (K.genuine scheme.now) name.now vote (map shown entries.now) }
 {
-    entries
-        .iter()
-        .all(|entry| is_genuine(scheme, name, vote, entry))
+    entries.iter().all(|entry| {
+        let statement = Statement {
+            group: entry.group,
+            replica: entry.replica,
+            vote: vote.into(),
+            name: *name,
+        };
+        scheme.check(&statement, entry.mark.as_slice())
+    })
 }

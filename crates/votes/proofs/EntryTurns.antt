@@ -22,7 +22,7 @@ up least e [] low next = cc (le-leb _ _ low)
 up least e (f ∷ es) low next =
     let here : rank (shown e) + 1 ≤ rank (shown f) = grind (arith, nat_tests, next 0 f (omega arith)) in
     let there : true ≡ rises (rank (shown e) + 1) (map shown (f ∷ es)) =
-        up (rank (shown e) + 1) f es here (λ k d l. simp unary_clauses (simp unary_clauses at (next (suc k) d (omega arith)))) in
+    up (rank (shown e) + 1) f es here (λ k d l. simp unary_clauses (simp unary_clauses at (next (suc k) d (omega arith)))) in
     cc (le-leb _ _ low)
 
 never : (b : Bool) → false ≡ (b && false)

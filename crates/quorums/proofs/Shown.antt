@@ -1,8 +1,7 @@
 -- The tests of a certificate, on its entries and on what they show.
-use Rattle.std.proofs.Common.{◌≡◌, ℕ, ◌+◌, Bool, ◌&&◌, ◌==◌, List, count_by, map, length, nat_eq}
+use Rattle.std.proofs.Common.{◌≡◌, ℕ, ◌+◌, ◌&&◌, ◌==◌, List, count_by, map, length, nat_eq}
 use Rattle.std.specs.List.{list_all, list_any}
-use Rattle.std.proofs.lemmas.List.Folds.{list_all-map}
-use Rattle.std.proofs.lemmas.List.Folds.{fold-map}
+use Rattle.std.proofs.lemmas.List.Folds.{fold-map, list_all-map}
 use lib.ListN.{length-map}
 use Rattle.bodies.specs.Operations.{key_of}
 use Rattle.bodies.specs.declared.operation.Operation.{Operation}

@@ -1,5 +1,5 @@
 -- The entries of a certificate, tested for their marks and for their order.
-use Rattle.std.proofs.Common.{lit≤, ◌≡◌, ℕ, zero, suc, ◌+◌, ◌<◌, ◌≤◌, true, false, ◌&&◌, Bool, leb, ltb, List, [], ◌∷◌, map, length, get_or, sym, refl, ap, ◌∙◌, arith}
+use Rattle.std.proofs.Common.{lit≤, ◌≡◌, ℕ, zero, suc, ◌+◌, ◌<◌, ◌≤◌, true, false, Bool, ltb, List, [], ◌∷◌, map, length, get_or, refl, arith}
 use Rattle.std.specs.List.{AllAdjacentBelow, AllByRecursion, IsAllAdjacentAnswer}
 use Rattle.std.proofs.lemmas.Bool.{and_from, eq-eqb, le-leb}
 use Rattle.std.proofs.lemmas.Bool.Decides.{nat_tests}
@@ -21,25 +21,18 @@ up : (least : ℕ) (e : Entry) (es : List Entry) → least ≤ rank (shown e) �
 up least e [] low next = cc (le-leb _ _ low)
 up least e (f ∷ es) low next =
     let here : rank (shown e) + 1 ≤ rank (shown f) = grind (arith, nat_tests, next 0 f (omega arith)) in
-    let there : true ≡ rises (rank (shown e) + 1) (map shown (f ∷ es)) =
-    up (rank (shown e) + 1) f es here (λ k d l. simp unary_clauses (simp unary_clauses at (next (suc k) d (omega arith)))) in
+    let there = up (rank (shown e) + 1) f es here (λ k d l. simp unary_clauses (simp unary_clauses at (next (suc k) d (omega arith)))) in
     cc (le-leb _ _ low)
-
-never : (b : Bool) → false ≡ (b && false)
-never true = refl
-never false = refl
 
 -- one does not stand before the next
 down : (least : ℕ) (es : List Entry) (k : ℕ) → k + 1 < length es →
     ((d : Entry) → false ≡ before (get_or es k d) (get_or es (k + 1) d)) → false ≡ rises least (map shown es)
 down least [] k l not = absurd (omega arith)
 down least (e ∷ []) k l not = absurd (omega arith)
-down least (e ∷ f ∷ es) zero l not =
-    let low : leb (rank (shown e) + 1) (rank (shown f)) ≡ false = grind (arith, nat_tests, not f) in
-    never (leb least (rank (shown e))) ∙ ap (λ t. leb least (rank (shown e)) && (t && rises (rank (shown f) + 1) (map shown es))) (sym low)
+down least (e ∷ f ∷ es) zero l not = grind (arith, nat_tests, not f)
 down least (e ∷ f ∷ es) (suc k) l not =
     let there = down (rank (shown e) + 1) (f ∷ es) k (omega arith) (λ d. simp unary_clauses (simp unary_clauses at (not d))) in
-    never (leb least (rank (shown e))) ∙ ap (λ t. leb least (rank (shown e)) && t) there
+    grind (arith, there)
 
 pub rises_is : (r : Bool) (es : List Entry) → IsAllAdjacentAnswer (λ a b r. r ≡ before a b) es r → r ≡ rises 0 (map shown es)
 rises_is true [] next = refl

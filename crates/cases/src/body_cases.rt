@@ -1,6 +1,6 @@
 // Bodies: what is read, what is malformed, what is written, and names.
 use std::test::Fail;
-use text::hex::{Hex, decode};
+use text::digits::{Hex, decode};
 use wire::export::club_register_name;
 use wire::{Body, Operation, WriteFault, name_of, read_body, write_body};
 
@@ -89,7 +89,7 @@ fn other_bytes_are_malformed(rt: HostRuntime) -> Result<(), Fail> {
         let message = bytes_of(&rt, digits)?;
         match read_body(message.as_slice()) {
             Ok(_) => return Err(Fail::new(digits)),
-            Err(fault) => assert_eq!(rt; fault.number(), 10),
+            Err(fault) => assert_eq!(rt; u8::from(fault), 10),
         }
         let mut name = [0xee; 32];
         assert_eq!(rt; club_register_name(message.as_slice(), &mut name), 10);
@@ -103,7 +103,7 @@ fn a_short_buffer_is_refused_and_left(rt: HostRuntime) -> Result<(), Fail> {
     let body = Body::new(1, &[Operation::Read { key: 4 }])?;
     let mut short = [0xee; 17];
     assert_eq!(rt; write_body(&body, &mut short), Err(WriteFault::ShortBuffer));
-    assert_eq!(rt; WriteFault::ShortBuffer.number(), 8);
+    assert_eq!(rt; u8::from(WriteFault::ShortBuffer), 8);
     assert_eq!(rt; short, [0xee; 17]);
     let mut exact = [0xee; 18];
     assert_eq!(rt; write_body(&body, &mut exact), Ok(18));

@@ -7,7 +7,7 @@ use wire::answer::writer::write_answer;
 use wire::certificate::reader::read_certificate;
 use wire::certificate::writer::write_certificate;
 use wire::proposal::{read_proposal, write_proposal};
-use wire::{Name, read_body, write_body};
+use wire::{Name, ReadFault, WriteFault, read_body, write_body};
 
 // What a byte is changed by.
 const CHANGES: [u8; 6] = [1, 2, 3, 4, 0x80, 0xff];
@@ -22,31 +22,38 @@ fn check(holds: bool, what: &str) -> Result<(), Fail> {
     if holds { Ok(()) } else { Err(Fail::new(what)) }
 }
 
-// Reads the bytes as each kind of message, writes again what was read, and answers how many kinds were.
-fn readings(width: usize, bytes: &[u8]) -> Result<u8, Fail> {
+// Whether a message was read; what was read is written again.
+fn is_read<T: Drop, W: Fn(&T, &mut [u8]) -> Result<usize, WriteFault> + Drop>(
+    read: Result<T, ReadFault>,
+    write: W,
+    bytes: &[u8],
+    kind: &str,
+) -> Result<bool, Fail>
+    requires { W.IsAlwaysCallable write }
+{
+    let Ok(message) = read else {
+        return Ok(false);
+    };
     let mut out = [0; 2048];
-    let mut kinds = 0;
-    if let Ok(body) = read_body(bytes) {
-        let length = write_body(&body, &mut out)?;
-        check(are_again(&out, length, bytes), "a body")?;
-        kinds += 1;
-    }
-    if let Ok(certificate) = read_certificate(width, bytes) {
-        let length = write_certificate(&certificate, &mut out)?;
-        check(are_again(&out, length, bytes), "a certificate")?;
-        kinds += 1;
-    }
-    if let Ok(name) = read_proposal(bytes) {
-        let length = write_proposal(&name, &mut out)?;
-        check(are_again(&out, length, bytes), "a proposal")?;
-        kinds += 1;
-    }
-    if let Ok(answer) = read_answer(width, bytes) {
-        let length = write_answer(&answer, &mut out)?;
-        check(are_again(&out, length, bytes), "an answer")?;
-        kinds += 1;
-    }
-    Ok(kinds)
+    let length = write(&message, &mut out)?;
+    check(are_again(&out, length, bytes), kind)?;
+    Ok(true)
+}
+
+// Reads the bytes as each kind of message, writes again what was read, and answers how many kinds were.
+fn readings(width: usize, bytes: &[u8]) -> Result<usize, Fail> {
+    let kinds = [
+        is_read(read_body(bytes), write_body, bytes, "a body")?,
+        is_read(
+            read_certificate(width, bytes),
+            write_certificate,
+            bytes,
+            "a certificate",
+        )?,
+        is_read(read_proposal(bytes), write_proposal, bytes, "a proposal")?,
+        is_read(read_answer(width, bytes), write_answer, bytes, "an answer")?,
+    ];
+    Ok(kinds.iter().filter(|read| **read).count())
 }
 
 // Changes the byte `at` in each way, and answers whether some of the damaged messages were read.
@@ -90,17 +97,10 @@ fn damaged_bodies(rt: HostRuntime) -> Result<(), Fail> {
 
 #[test]
 fn damaged_certificates(rt: HostRuntime) -> Result<(), Fail> {
-    for (width, vote, count, first, step, good) in certificates::CASES {
-        if good {
-            let mut message = certificates::certificate_bytes(
-                rt.alloc(),
-                width,
-                vote,
-                count,
-                first,
-                step,
-            )?;
-            damage(usize::from(width), message.as_mut_slice())?;
+    for case in certificates::cases() {
+        if case.good {
+            let mut message = case.to_bytes(rt.alloc())?;
+            damage(usize::from(case.width), message.as_mut_slice())?;
         }
     }
     Ok(())
@@ -123,10 +123,10 @@ fn damaged_proposals() -> Result<(), Fail> {
 
 #[test]
 fn damaged_answers(rt: HostRuntime) -> Result<(), Fail> {
-    for (fields, width, count, end, good) in answers::CASES {
-        if good {
-            let mut message = answers::answer_bytes(rt.alloc(), fields, width, count, end)?;
-            damage(usize::from(width), message.as_mut_slice())?;
+    for case in answers::cases() {
+        if case.good {
+            let mut message = case.to_bytes(rt.alloc())?;
+            damage(usize::from(case.width), message.as_mut_slice())?;
         }
     }
     Ok(())

@@ -15,17 +15,17 @@ equal Greater e = absurd (true≢false (sym e))
 
 module _ {K : Type 0} (cmp : K → K → Ordering) (laws : Laws cmp) where
   pub tied_same : (x : K) → is_eq (cmp x x) ≡ true
-  tied_same x = at (cmp x x) (laws.flip x x) where
+  tied_same x = at (cmp x x) (laws.total.antisymm x x) where
     at : (o : Ordering) → o ≡ ordering_reverse o → is_eq o ≡ true
     at Less e = absurd (true≢false (ap is_lt e))
     at Equal e = refl
     at Greater e = absurd (true≢false (ap is_gt e))
 
   pub above_from_below : (x y : K) → cmp x y ≡ Less → cmp y x ≡ Greater
-  above_from_below x y e = laws.flip y x ∙ ap ordering_reverse e
+  above_from_below x y e = laws.total.antisymm y x ∙ ap ordering_reverse e
 
   pub below_from_above : (x y : K) → cmp x y ≡ Greater → cmp y x ≡ Less
-  below_from_above x y e = laws.flip y x ∙ ap ordering_reverse e
+  below_from_above x y e = laws.total.antisymm y x ∙ ap ordering_reverse e
 
   -- two keys compare equal exactly where they are the same
   pub tied : (x y : K) → Decides (is_eq (cmp x y)) (x ≡ y)

@@ -1,34 +1,28 @@
--- The turns of the loop that tests whether keys rise.
-use Rattle.std.proofs.Common.{◌≡◌, ℕ, ◌+◌, ◌-◌, ◌<◌, ◌≤◌, Bool, true, false, ◌&&◌, List, [], ◌∷◌, length, get_or, drop, Ordering, sym, refl, ap, ◌∙◌, arith}
+-- Whether keys rise, told by neighbours.
+use Rattle.std.proofs.Common.{◌≡◌, ℕ, suc, ◌+◌, ◌<◌, Bool, true, false, ◌&&◌, List, [], ◌∷◌, length, get_or, Ordering, sym, refl, ap, ◌∙◌, true≢false, add-one, arith}
+use Rattle.std.specs.List.{IsAllAdjacentAnswer}
 use Rattle.std.specs.Ordering.{is_lt}
-use Rattle.std.proofs.lemmas.List.{at_drop_more, length-drop}
+use Rattle.std.proofs.lemmas.Bool.{and_from}
+use Rattle.table.specs.Orders.{Laws}
 use Rattle.table.specs.Rows.{leads, rising}
 use Rattle.table.specs.declared.row.Row.{Row}
+use Rattle.table.proofs.Places.{rising_next}
 
-module _ {K V : Type 0} (cmp : K → K → Ordering) (rows : List (Row K V)) (i : ℕ)
-    (inv : rising cmp (drop (i - 1) rows) ≡ rising cmp rows) where
-  -- at most one row is left
-  pub rising_all : length rows ≤ i → true ≡ rising cmp rows
-  rising_all end = sym (single (drop (i - 1) rows) (simp length-drop (omega arith))) ∙ inv where
-    single : (rs : List (Row K V)) → length rs ≤ 1 → rising cmp rs ≡ true
-    single [] l = refl
-    single (r ∷ []) l = refl
-    single (r ∷ s ∷ rs) l = absurd (omega arith)
+module _ {K V : Type 0} (cmp : K → K → Ordering) (laws : Laws cmp) where
+  rising_from_next : (rs : List (Row K V)) → ((i : ℕ) (d : Row K V) → suc i < length rs → true ≡ is_lt (cmp (get_or rs i d).key (get_or rs (suc i) d).key))
+      → rising cmp rs ≡ true
+  rising_from_next [] next = refl
+  rising_from_next (r ∷ []) next = refl
+  rising_from_next (r ∷ s ∷ rs) next =
+      and_from _ _ (sym (next 0 r (omega arith))) (rising_from_next (s ∷ rs) (λ i d low. next (suc i) d (omega arith)))
 
-  module _ (first : 1 ≤ i) (low : i < length rows) (a b : Row K V) (below : Bool)
-      (is : below ≡ is_lt (cmp (get_or rows (i - 1) a).key (get_or rows i b).key)) where
-    turn : rising cmp rows ≡ (below && rising cmp (drop i rows))
-    turn =
-        let next : i - 1 + 1 ≡ i = omega arith in
-        sym inv ∙ at_drop_more (rising cmp) rows (i - 1) a (omega arith)
-        ∙ ap (λ n. leads cmp (get_or rows (i - 1) a).key (drop n rows) && rising cmp (drop n rows)) next
-        ∙ ap (λ t. t && rising cmp (drop i rows))
-        (at_drop_more (leads cmp (get_or rows (i - 1) a).key) rows i b low ∙ sym is)
-
-    pub rising_not : below ≡ false → false ≡ rising cmp rows
-    rising_not e = sym (turn ∙ ap (λ t. t && rising cmp (drop i rows)) e)
-
-    pub rising_on : below ≡ true → rising cmp (drop (i + 1 - 1) rows) ≡ rising cmp rows
-    rising_on e =
-        let same : i + 1 - 1 ≡ i = omega arith in
-        ap (λ n. rising cmp (drop n rows)) same ∙ sym (turn ∙ ap (λ t. t && rising cmp (drop i rows)) e)
+  -- the answer of the library's test of neighbours
+  pub rises : (rs : List (Row K V)) (b : Bool) → IsAllAdjacentAnswer (λ x y b. b ≡ is_lt (cmp x.key y.key)) rs b
+      → b ≡ rising cmp rs
+  rises rs true next = sym (rising_from_next rs (λ i d low. simp add-one at (next i d (omega arith))))
+  rises [] false next = absurd (omega (arith, next.1))
+  rises (r ∷ rs) false next = at (rising cmp (r ∷ rs)) refl where
+    at : (c : Bool) → rising cmp (r ∷ rs) ≡ c → false ≡ c
+    at true up =
+        absurd (true≢false (sym (simp add-one at (next.2 r) ∙ ap is_lt (rising_next cmp laws (r ∷ rs) next.0 r up (omega (arith, next.1))))))
+    at false up = refl

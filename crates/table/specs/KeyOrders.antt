@@ -1,33 +1,26 @@
--- The orders of numbers and of names are total.
+-- The orders of numbers and of names tell any two apart.
 use Rattle.std.specs.Prelude.{◌≡◌, ℕ, List, [], ◌∷◌, refl}
 use Rattle.std.specs.declared.cmp.Ordering.TheVariants.{Less, Equal, Greater}
 use Rattle.std.specs.declared.cmp.Ordering.{Ordering}
 use Rattle.std.proofs.Common.{sym, ap, ap₂, ◌∙◌, true≢false, eqb-true}
-use Rattle.std.specs.Cmp.{nat_cmp_total, unsigned_tied}
-use Rattle.std.specs.Cmp.Lexicographic.{slice_cmp, lists_total}
+use Rattle.std.specs.Cmp.{unsigned_tied}
+use Rattle.std.specs.Cmp.Lexicographic.{slice_cmp}
 use Rattle.std.specs.Ordering.{is_eq, is_gt, is_lt, ordering_then, nat_cmp}
-use Rattle.table.specs.Orders.{Laws, by_bytes, by_number}
+use Rattle.envelope.specs.declared.name.Name.{Name}
 
-same_number : (x y : ℕ) → by_number x y ≡ Equal → x ≡ y
+pub same_number : (x y : ℕ) → nat_cmp x y ≡ Equal → x ≡ y
 same_number x y e = eqb-true x y (sym (unsigned_tied x y) ∙ ap is_eq e)
-
-pub numbers : Laws by_number
-numbers = record { same = same_number; flip = nat_cmp_total.antisymm; trans = nat_cmp_total.trans }
 
 same_bytes : (xs ys : List ℕ) → slice_cmp nat_cmp xs ys ≡ Equal → xs ≡ ys
 same_bytes [] [] e = refl
 same_bytes [] (y ∷ ys) e = absurd (true≢false (ap is_lt e))
 same_bytes (x ∷ xs) [] e = absurd (true≢false (ap is_gt e))
-same_bytes (x ∷ xs) (y ∷ ys) e = at (by_number x y) refl (same_bytes xs ys) e where
-  at : (o : Ordering) → by_number x y ≡ o → (slice_cmp nat_cmp xs ys ≡ Equal → xs ≡ ys)
+same_bytes (x ∷ xs) (y ∷ ys) e = at (nat_cmp x y) refl (same_bytes xs ys) e where
+  at : (o : Ordering) → nat_cmp x y ≡ o → (slice_cmp nat_cmp xs ys ≡ Equal → xs ≡ ys)
       → ordering_then o (slice_cmp nat_cmp xs ys) ≡ Equal → x ∷ xs ≡ y ∷ ys
   at Less is next h = absurd (true≢false (ap is_lt h))
   at Equal is next h = ap₂ (λ z zs. z ∷ zs) (same_number x y is) (next h)
   at Greater is next h = absurd (true≢false (ap is_gt h))
 
-pub names : Laws by_bytes
-names = record {
-  same = λ x y e. ap (λ b. record { bytes = b }) (same_bytes x.bytes y.bytes e);
-  flip = λ x y. (lists_total nat_cmp_total).antisymm x.bytes y.bytes;
-  trans = λ x y z. (lists_total nat_cmp_total).trans x.bytes y.bytes z.bytes;
-}
+pub same_name : (x y : Name) → slice_cmp nat_cmp x.bytes y.bytes ≡ Equal → x ≡ y
+same_name x y e = ap (λ b. record { bytes = b }) (same_bytes x.bytes y.bytes e)

@@ -9,14 +9,12 @@
 
 ghost use Rattle.std.specs.Prelude.{◌≡◌, ◌+◌, ◌<◌, ◌≤◌, true, ◌++◌, length, take, drop, is_some, MatchResult};
 ghost use Rattle.std.specs.List.{insert};
-ghost use Rattle.std.specs.Ordering.{is_lt};
 ghost use Rattle.table.specs.Insertions.{filled_after, insert_after, insert_answer, table_after};
 ghost use Rattle.table.specs.Rows.{changed, lookup, position, rising};
 ghost use Rattle.table.specs.TableLaws.{TableLaws};
 
 use crate::key::Key;
 use crate::row::{Refusal, Row};
-use std::cmp::Ordering;
 
 pub mod key;
 pub mod row;
@@ -25,27 +23,17 @@ mod tests;
 
 /// Where the key stands, or where it would go.
 pub fn find<K: Key, V>(rows: &[Row<K, V>], key: &K) -> Result<usize, usize>
-    requires { rising K.order rows.now ≡ true }
-    ensures place { result ≡ position K.order rows.now key.now }
+    requires { rising K.cmp rows.now ≡ true }
+    ensures place { result ≡ position K.cmp rows.now key.now }
     ensures bound { MatchResult result (λ i. i < length rows.now) (λ i. i ≤ length rows.now) }
 {
-    let mut low = 0;
-    let mut high = rows.len();
-    while low < high {
-        let middle = low + (high - low) / 2;
-        match key.compare(&rows[middle].key) {
-            Ordering::Less => high = middle,
-            Ordering::Equal => return Ok(middle),
-            Ordering::Greater => low = middle + 1,
-        }
-    }
-    Err(low)
+    rows.binary_search_by(|row| row.key.cmp(key))
 }
 
 /// The value beside the key.
 pub fn get<K: Key, V: Copy>(rows: &[Row<K, V>], key: &K) -> Option<V>
-    requires { rising K.order rows.now ≡ true }
-    ensures { result ≡ lookup K.order rows.now key.now }
+    requires { rising K.cmp rows.now ≡ true }
+    ensures { result ≡ lookup K.cmp rows.now key.now }
 {
     match find(rows, key) {
         Ok(at) => Some(rows[at].value),
@@ -55,14 +43,9 @@ pub fn get<K: Key, V: Copy>(rows: &[Row<K, V>], key: &K) -> Option<V>
 
 /// Whether each key is below the next.
 pub fn rises<K: Key, V>(rows: &[Row<K, V>]) -> bool
-    ensures { result ≡ rising K.order rows.now }
+    ensures { result ≡ rising K.cmp rows.now }
 {
-    for i in 1..rows.len() {
-        if !is_below(&rows[i - 1].key, &rows[i].key) {
-            return false;
-        }
-    }
-    true
+    rows.is_sorted_by(|left, right| left.key < right.key)
 }
 
 /// Puts a row with a new key in its place, and answers where that is. The first `filled` rows are the table; the rows
@@ -74,13 +57,13 @@ pub fn insert<K: Key + Drop, V: Drop>(
     key: K,
     value: V,
 ) -> Result<usize, Refusal>
-    requires { rising K.order (take filled rows.old) ≡ true }
-    ensures answer { result ≡ insert_answer K.order rows.old filled key }
+    requires { rising K.cmp (take filled rows.old) ≡ true }
+    ensures answer { result ≡ insert_answer K.cmp rows.old filled key }
     ensures after { rows.new
-        ≡ insert_after K.order rows.old filled (record { key = key; value = value }) }
+        ≡ insert_after K.cmp rows.old filled (record { key = key; value = value }) }
     ensures table { take (filled_after filled result) rows.new
-        ≡ table_after K.order (take filled rows.old) (record { key = key; value = value }) result }
-    ensures rises { rising K.order (take (filled_after filled result) rows.new) ≡ true }
+        ≡ table_after K.cmp (take filled rows.old) (record { key = key; value = value }) result }
+    ensures rises { rising K.cmp (take (filled_after filled result) rows.new) ≡ true }
 {
     let at = match find(first(rows, filled), &key) {
         Ok(at) => return Err(Refusal::Present(at)),
@@ -95,10 +78,10 @@ pub fn insert<K: Key + Drop, V: Drop>(
 
 /// Gives the key's row another value, and answers whether the key has a row.
 pub fn change<K: Key, V: Drop>(rows: &mut [Row<K, V>], key: &K, value: V) -> bool
-    requires { rising K.order rows.old ≡ true }
-    ensures answer { result ≡ is_some (lookup K.order rows.old key.now) }
-    ensures after { rows.new ≡ changed K.order rows.old key.now value }
-    ensures rises { rising K.order rows.new ≡ true }
+    requires { rising K.cmp rows.old ≡ true }
+    ensures answer { result ≡ is_some (lookup K.cmp rows.old key.now) }
+    ensures after { rows.new ≡ changed K.cmp rows.old key.now value }
+    ensures rises { rising K.cmp rows.new ≡ true }
 {
     match find(rows, key) {
         Ok(at) => {
@@ -111,16 +94,9 @@ pub fn change<K: Key, V: Drop>(rows: &mut [Row<K, V>], key: &K, value: V) -> boo
 
 /// What an insertion and a change leave, and what is found then.
 pub fn table_laws_hold<K: Key, V>() -> u8
-    ensures { TableLaws K V K.order }
+    ensures { TableLaws K V K.cmp }
 {
     0
-}
-
-// Whether `left` is below `right`.
-fn is_below<K: Key>(left: &K, right: &K) -> bool
-    ensures { result ≡ is_lt (K.order left.now right.now) }
-{
-    left.compare(right).is_lt()
 }
 
 // The first `count` items, or all where there are no more.

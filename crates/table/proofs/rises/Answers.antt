@@ -1,17 +1,14 @@
-use Rattle.table.proofs.RisingTurns.{rising_all, rising_not, rising_on}
+use Rattle.std.proofs.Common.{◌≡◌, rules, ap}
+use Rattle.std.specs.Ordering.{is_lt, is_some_and}
+use Rattle.std.proofs.lemmas.Fn.{always_returns_same}
+use Rattle.table.proofs.RisingTurns.{rises}
 use Rattle.table.proofs.rises.Goals as goal
 
-pub returns-then-not-is_below : goal.returns-then-not-is_below
-returns-then-not-is_below g c =
-    rising_not g.K.Key.order c.args.rows.now c.loop-i.i c.loop-i.invariant c.loop-i.auto.i
-    c.loop-i-test.true c.index-rows-i.result c.index-rows-i-in-loop-i.result _ c.is_below.ensures
-    c.if-not-is_below.true
-
-pub loop-i-preserved : goal.loop-i-preserved
-loop-i-preserved g c =
-    rising_on g.K.Key.order c.args.rows.now c.loop-i.i c.loop-i.invariant c.loop-i.auto.i
-    c.loop-i-test.true c.index-rows-i.result c.index-rows-i-in-loop-i.result _ c.is_below.ensures
-    c.if-not-is_below.false
-
 pub returns : goal.returns
-returns g c = rising_all g.K.Key.order c.args.rows.now c.loop-i.i c.loop-i.invariant c.loop-i-test.false
+returns g c =
+    let cmp = g.K.Ord.cmp in
+    let below : (x y : g.row.K.Denot) → is_some_and is_lt (g.K.PartialOrd.partial_cmp x y) ≡ is_lt (cmp x y) =
+    λ x y. ap (is_some_and is_lt) (g.met.K.Ord.matches_partial_cmp x y) in
+    rises cmp (record { total = g.met.K.Ord.total; same = g.met.K.Key.same }) c.args.rows.now c.is_sorted_by.result
+    (c.is_sorted_by.ensures.cases (λ x y. is_lt (cmp x.key y.key))
+    (always_returns_same _ _ _ (λ a r f' called. search (rules, below))))

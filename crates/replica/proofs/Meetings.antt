@@ -7,12 +7,13 @@ use Rattle.envelope.specs.declared.name.Name.{Name}
 use Rattle.std.proofs.lemmas.List.{length-take-le}
 use Rattle.std.proofs.lemmas.Bool.{lt-ltb}
 use Rattle.table.specs.Insertions.{admitted, insert_answer}
-use Rattle.table.specs.Orders.{by_bytes}
+use Rattle.table.specs.Orders.{Laws, by_bytes}
 use Rattle.table.specs.Rows.{changed, lookup, position, rising}
 use Rattle.table.specs.declared.row.Refusal.{Refusal}
 use Rattle.table.specs.declared.row.Row.{Row}
 use Rattle.table.proofs.Changed.{change_is, rising_changed}
-use Rattle.table.specs.KeyOrders.{names}
+use Rattle.std.proofs.lemmas.Cmp.{lists_total, nat_cmp_total, on_total}
+use Rattle.table.specs.KeyOrders.{same_name}
 use Rattle.table.proofs.Lookups.{found, lookup_absent, lookup_present}
 use Rattle.votes.specs.declared.state.State.{State}
 use Rattle.votes.specs.declared.state.State.TheVariants.{Pending, Committed, RolledBack, Declined}
@@ -21,6 +22,9 @@ use Rattle.replica.specs.Models.{Book}
 use Rattle.replica.specs.Steps.{state_after}
 use Rattle.replica.specs.declared.book.Delivered.{Delivered}
 use Rattle.replica.specs.declared.book.Delivered.TheVariants.{Body, Proposal, CommitCertificate, AbortCertificate}
+
+names : Laws by_bytes
+names = record { total = on_total (λ (n : Name). n.bytes) (lists_total nat_cmp_total); same = same_name }
 
 -- an entry with another state
 abbrev restated : Row Name State → State → Row Name State

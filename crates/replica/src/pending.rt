@@ -11,13 +11,12 @@ use bodies::operation::Operation;
 use envelope::name::Name;
 use locks::partition::{GroupOperations, Partition};
 use std::cmp::Ordering;
-use table::key::Key;
 
 // Whether the names are the same.
 fn is_same(left: &Name, right: &Name) -> bool
     ensures { result ≡ same_name left.now right.now }
 {
-    match left.compare(right) {
+    match left.cmp(right) {
         Ordering::Less => false,
         Ordering::Equal => true,
         Ordering::Greater => false,

@@ -1,13 +1,15 @@
 -- The whole slice after an insertion: the filled rows with the new one, and the free ones behind them.
-use Rattle.std.proofs.Common.{◌≡◌, ℕ, ◌+◌, ◌<◌, ◌≤◌, true, cond, List, ◌++◌, length, take, drop, is_ok, Ok, Err, Ordering, sym, ap, ◌∙◌, ap₂, arith}
+use Rattle.std.proofs.Common.{◌≡◌, ℕ, ◌+◌, ◌<◌, ◌≤◌, true, cond, List, ◌++◌, length, take, drop, is_ok, is_some, None, Ok, Err, Result, Ordering, sym, refl, ap, true≢false, ◌∙◌, ap₂, arith}
 use Rattle.std.specs.List.{insert}
 use Rattle.std.proofs.lemmas.List.Edits.{length-insert}
 use Rattle.std.proofs.lemmas.List.{length-take-le, take_at}
 use Rattle.std.proofs.lemmas.Bool.{lt-ltb}
 use Rattle.table.specs.Insertions.{admitted, insert_after, insert_answer}
 use Rattle.table.specs.Orders.{Laws}
-use Rattle.table.specs.Rows.{insert_sorted, position, rising}
+use Rattle.table.specs.Rows.{insert_sorted, lookup, position, rising}
 use Rattle.table.specs.declared.row.Row.{Row}
+use Rattle.table.specs.declared.row.Refusal.{Refusal}
+use Rattle.table.proofs.Lookups.{found}
 use Rattle.table.proofs.Inserted.{insert_is, rising_inserted}
 
 -- the search in the table, which are the first rows, answered that the key goes in at this place
@@ -46,3 +48,15 @@ module _ {K V : Type 0} (cmp : K → K → Ordering) (rows table : List (Row K V
 
     pub rising_after : Laws cmp → rising cmp (take filled rows) ≡ true → rising cmp (take (filled + 1) after) ≡ true
     rising_after laws up = ap (rising cmp) table_is ∙ rising_inserted cmp laws x (take filled rows) up
+
+-- a new key goes in where a row is free
+pub not_refused : {K V : Type 0} (cmp : K → K → Ordering) → Laws cmp → (rows : List (Row K V)) (filled : ℕ) (k : K)
+    → filled < length rows → rising cmp (take filled rows) ≡ true → lookup cmp (take filled rows) k ≡ None
+    → (fault : Refusal) → Err fault ≡ insert_answer cmp rows filled k → ⊥
+not_refused cmp laws rows filled k free up new fault e = at (position cmp (take filled rows) k) refl where
+  at : (p : Result ℕ ℕ) → position cmp (take filled rows) k ≡ p → ⊥
+  at (Ok i) is =
+      true≢false (ap is_ok (sym is) ∙ found cmp laws (take filled rows) k up ∙ ap is_some new)
+  at (Err i) is =
+      let go : Err fault ≡ Ok i = e ∙ ap₂ admitted is (lt-ltb filled (length rows) free) in
+      cc

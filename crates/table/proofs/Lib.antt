@@ -7,3 +7,4 @@ pub mod Lookups
 pub mod Places
 pub mod RisingTurns
 pub mod Shifts
+pub mod Valued

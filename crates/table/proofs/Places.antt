@@ -1,5 +1,5 @@
 -- Where a key stands among rows that rise, told from how it compares with one row or with two neighbours.
-use Rattle.std.proofs.Common.{◌≡◌, ℕ, zero, suc, ◌+◌, ◌<◌, ◌≤◌, true, List, [], ◌∷◌, length, get_or, Ok, Err, Result, Ordering, Less, Equal, Greater, sym, refl, ap, ◌∙◌, add-one, not-suc-le-zero, arith}
+use Rattle.std.proofs.Common.{◌≡◌, ℕ, zero, suc, ◌<◌, ◌≤◌, true, List, [], ◌∷◌, length, get_or, Ok, Err, Result, Ordering, Less, Equal, Greater, sym, refl, ap, ◌∙◌, add-one, not-suc-le-zero, arith}
 use Rattle.std.specs.List.Sorted.{IsBinarySearchResult, IsSearchInRange}
 use Rattle.std.specs.Ordering.{is_lt, ordering_reverse}
 use Rattle.std.proofs.lemmas.List.Sorted.{searchable_from_sorted}
@@ -7,7 +7,7 @@ use Rattle.std.proofs.lemmas.Bool.{and_parts}
 use Rattle.table.specs.Orders.{Laws}
 use Rattle.table.specs.Rows.{further, leads, pick, position, rising}
 use Rattle.table.specs.declared.row.Row.{Row}
-use Rattle.table.proofs.Comparisons.{above_from_below, below_from_above, less}
+use Rattle.table.proofs.Comparisons.{above_from_below, less}
 
 module _ {K V : Type 0} (cmp : K → K → Ordering) (laws : Laws cmp) where
   -- what is below a key that is below the first row is below the first row

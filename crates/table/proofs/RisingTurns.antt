@@ -1,10 +1,10 @@
 -- Whether keys rise, told by neighbours.
-use Rattle.std.proofs.Common.{◌≡◌, ℕ, suc, ◌+◌, ◌<◌, Bool, true, false, ◌&&◌, List, [], ◌∷◌, length, get_or, Ordering, sym, refl, ap, ◌∙◌, true≢false, add-one, arith}
+use Rattle.std.proofs.Common.{◌≡◌, ℕ, suc, ◌<◌, Bool, true, false, List, [], ◌∷◌, length, get_or, Ordering, sym, refl, ap, ◌∙◌, true≢false, add-one, arith}
 use Rattle.std.specs.List.{IsAllAdjacentAnswer}
 use Rattle.std.specs.Ordering.{is_lt}
 use Rattle.std.proofs.lemmas.Bool.{and_from}
 use Rattle.table.specs.Orders.{Laws}
-use Rattle.table.specs.Rows.{leads, rising}
+use Rattle.table.specs.Rows.{rising}
 use Rattle.table.specs.declared.row.Row.{Row}
 use Rattle.table.proofs.Places.{rising_next}
 

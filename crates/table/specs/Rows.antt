@@ -1,5 +1,5 @@
 -- Rows in the order of their keys: what is found in them, and what an insertion and a change leave.
-use Rattle.std.specs.Prelude.{ℕ, ◌+◌, Bool, true, cond, ◌&&◌, List, [], ◌∷◌, Some, None, Ok, Err, Option, Result}
+use Rattle.std.specs.Prelude.{ℕ, zero, suc, ◌+◌, Bool, true, cond, ◌&&◌, List, [], ◌∷◌, Some, None, Ok, Err, Option, Result}
 use Rattle.std.specs.declared.cmp.Ordering.TheVariants.{Less, Equal, Greater}
 use Rattle.std.specs.declared.cmp.Ordering.{Ordering}
 use Rattle.std.specs.Ordering.{is_eq, is_lt}
@@ -46,3 +46,9 @@ module _ {K V : Type 0} (cmp : K → K → Ordering) where
   abbrev pub changed : List (Row K V) → K → V → List (Row K V)
   changed [] k v = []
   changed (r ∷ rs) k v = cond (is_eq (cmp k r.key)) (record { key = r.key; value = v } ∷ rs) (r ∷ changed rs k v)
+
+-- the rows with another value at a place
+abbrev pub valued : {K V : Type 0} → List (Row K V) → ℕ → V → List (Row K V)
+valued [] at v = []
+valued (r ∷ rs) zero v = record { key = r.key; value = v } ∷ rs
+valued (r ∷ rs) (suc at) v = r ∷ valued rs at v

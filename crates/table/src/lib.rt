@@ -17,6 +17,7 @@ use crate::key::Key;
 use crate::row::{Refusal, Row};
 
 pub mod key;
+pub mod owned;
 pub mod row;
 #[cfg(test)]
 mod tests;

@@ -1,15 +1,11 @@
 -- The entries of a certificate, tested for their marks and for their order.
-use Rattle.std.proofs.Common.{lit≤, ◌≡◌, ℕ, zero, suc, ◌+◌, ◌<◌, ◌≤◌, true, false, Bool, ltb, List, [], ◌∷◌, map, length, get_or, refl, arith}
+use Rattle.std.proofs.Common.{◌≡◌, ℕ, zero, suc, ◌+◌, ◌<◌, ◌≤◌, true, false, Bool, ltb, List, [], ◌∷◌, map, length, get_or, refl, arith}
 use Rattle.std.specs.List.{AllAdjacentBelow, AllByRecursion, IsAllAdjacentAnswer}
 use Rattle.std.proofs.lemmas.Bool.{and_from, eq-eqb, le-leb}
 use Rattle.std.proofs.lemmas.Bool.Decides.{nat_tests}
 use native.Mathlib.Numerals.{unary_clauses}
 use Rattle.votes.specs.Entries.{EntryFits, EntryModel, all_wide, rank, rises, shown}
 use Rattle.votes.specs.declared.entry.Entry.{Entry}
-
--- what a list is said to hold past its end
-abbrev pub blank : Entry
-blank = record { group = 0; replica = 0; mark = record { 0 = record { count = 0; items = []; within = lit≤ tt } } }
 
 -- whether an entry stands before another
 abbrev pub before : Entry → Entry → Bool

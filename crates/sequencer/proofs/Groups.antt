@@ -97,7 +97,8 @@ module _ {lead : ℕ} (t : Records lead) (g : ℕ) where
       pub whole_more : OnlyRecords lead bs
       whole_more = subst (OnlyRecords lead) (sym more) (only_more lead t.lead t.bytes.items t.whole _ proper)
 
-      each_more : (h : ℕ) → starts_of lead bs h ≡ starts_of lead t.bytes.items h ++ cond (g == h) (length t.bytes.items ∷ []) []
+      each_more : (h : ℕ)
+          → starts_of lead bs h ≡ starts_of lead t.bytes.items h ++ cond (g == h) (length t.bytes.items ∷ []) []
       each_more h = ap (λ l. starts_of lead l h) more ∙ starts_more lead t.lead t.bytes.items t.whole h _ proper
 
       -- the index of the group with one more start

@@ -26,7 +26,8 @@ module _ (t : Records 0) where
 
 -- tracks that are fresh, each by itself
 pub fresh_tracks : (s : Tracks) (groups size : ℕ) → length s.tracks.items ≡ groups
-    → All (Fresh tape_lists tape_fits 1 (has_space 0 0 size)) s.tracks.items → Fresh track_lists track_fits groups (has_space 0 0 size) s
+    → All (Fresh tape_lists tape_fits 1 (has_space 0 0 size)) s.tracks.items
+    → Fresh track_lists track_fits groups (has_space 0 0 size) s
 fresh_tracks s groups size many fresh = record {
   none = λ g. elim (slice_get_cases s.tracks.items g).1 [
     | inl (t, l, is, at) ↦ ap list_on is ∙ sym (track_list t) ∙ subst (λ x. tape_lists x 0 ≡ []) at ((fresh g t l).none 0)
@@ -41,8 +42,9 @@ fresh_tracks s groups size many fresh = record {
 }
 
 -- what holds of the new element and the old one at their place, and of each other element and itself, holds everywhere
-pub at_set : {X : Type 0} (P : Bool → Option X → Option X → Type 0) (xs : List X) (i : ℕ) (x y : X) → slice_get xs i ≡ Some x
-    → P true (Some y) (Some x) → ((o : Option X) → P false o o) → (j : ℕ) → P (i == j) (slice_get (set xs i y) j) (slice_get xs j)
+pub at_set : {X : Type 0} (P : Bool → Option X → Option X → Type 0) (xs : List X) (i : ℕ) (x y : X)
+    → slice_get xs i ≡ Some x → P true (Some y) (Some x) → ((o : Option X) → P false o o)
+    → (j : ℕ) → P (i == j) (slice_get (set xs i y) j) (slice_get xs j)
 at_set P xs i x y e p q j =
     let within = slice_get_within xs i x e in
     let new : slice_get (set xs i y) i ≡ Some y = grind (arith, common_steps, gets) in
@@ -55,8 +57,18 @@ at_set P xs i x y e p q j =
 pub restored : {X : Type 0} (v : Vec X Global) (i : ℕ) (x : X) → x ≡ get_or v.items i x → with_item v i x ≡ v
 restored v i x e =
     let same : set v.items i x ≡ v.items = ap (set v.items i) e ∙ set-get_or v.items i x in
-    let pairs : ◌≡◌ {A = (xs : List _) × ((v.len ≡ length xs) × (v.len ≤ v.cap))} (set v.items i x, (with_item v i x).ok) (v.items, v.ok) = Σ_prop_path (λ xs. Prim.hlevel props) same in
-    λ k. record { ptr = v.ptr; len = v.len; cap = v.cap; alloc = v.alloc; items = (pairs k).0; ok = (pairs k).1; small = v.small }
+    let kept : Type 0 = (xs : List _) × ((v.len ≡ length xs) × (v.len ≤ v.cap)) in
+    let pairs : ◌≡◌ {A = kept} (set v.items i x, (with_item v i x).ok) (v.items, v.ok) =
+    Σ_prop_path (λ xs. Prim.hlevel props) same in
+    λ k. record {
+      ptr = v.ptr;
+      len = v.len;
+      cap = v.cap;
+      alloc = v.alloc;
+      items = (pairs k).0;
+      ok = (pairs k).1;
+      small = v.small;
+    }
 
 pub mapped_same : {X : Type 0} (o : Option X) → o ≡ option_map (λ x. x) o
 mapped_same None = refl

@@ -28,7 +28,9 @@ module _ (lead : ℕ) (low : lead ≤ 1) where
       ap (λ p. cond (e.group == g) (p ∷ []) []) (let same : at ≡ end = omega arith in same)
   starts_from_more g at end (x ∷ es) e l =
       let long = length-append (record_of lead x) (flat_map (record_of lead) es) in
-      cond_append (x.group == g) at _ _ _ (starts_from_more g (at + record_size lead (length x.message)) end es e (omega (arith, length_record lead low x)))
+      let next : ℕ = at + record_size lead (length x.message) in
+      let later = starts_from_more g next end es e (omega (arith, length_record lead low x)) in
+      cond_append (x.group == g) at _ _ _ later
 
   -- the entries of a group start where the starts say, and their messages stand there
   record Found (bs : List ℕ) (ms : List (List ℕ)) (ps : List ℕ) : Type 0 where
@@ -48,7 +50,8 @@ module _ (lead : ℕ) (low : lead ≤ 1) where
       let here : drop at bs ≡ record_of lead e ++ rest =
       ap (drop at) is ∙ drop_at front (record_of lead e ++ rest) at l in
       let later =
-      found_from g (at + record_size lead (length e.message)) bs (front ++ record_of lead e) es (is ∙ sym (append_assoc front (record_of lead e) rest))
+      found_from g (at + record_size lead (length e.message)) bs (front ++ record_of lead e) es
+      (is ∙ sym (append_assoc front (record_of lead e) rest))
       (omega (arith, l, length-append front (record_of lead e), length_record lead low e)) ps.1 in
       let s = spacious lead 0 _ _ (begins_of lead low e ps.0 rest) in
       let starts : Starts lead bs at = record {

@@ -30,7 +30,8 @@ fewer g (e ∷ es) =
     cond_both (e.group == g) (e.message ∷ of_group g es) (of_group g es) (λ ms. length ms ≤ length (e ∷ es))
     (λ _. omega (arith, fewer g es)) (λ _. omega (arith, fewer g es))
 
-all_of_group : (P : List ℕ → Type 0) (g : ℕ) (es : List Entry) → AllByRecursion (λ e. P e.message) es → AllByRecursion P (of_group g es)
+all_of_group : (P : List ℕ → Type 0) (g : ℕ) (es : List Entry) → AllByRecursion (λ e. P e.message) es
+    → AllByRecursion P (of_group g es)
 all_of_group P g [] ps = tt
 all_of_group P g (e ∷ es) ps =
     let more = all_of_group P g es ps.1 in

@@ -8,7 +8,7 @@ use crate::{DoesNotFit, Sequencer};
 use envelope::message::LARGEST_MESSAGE;
 use std::test::Fail;
 
-// Posts the message to two groups, and answers whether both have it; its length was then right.
+// Posts the message to two groups. If both have it then, its length was right.
 fn post_to_both<S: Sequencer>(
     sequencer: &mut S,
     first: u8,

@@ -71,6 +71,7 @@ impl<const LEAD: usize> Records<LEAD> {
         ensures { IfOk result (Fresh tape_lists tape_fits groups (has_space LEAD 0 size)) }
     {
         let bytes = Vec::with_capacity(heap, size)?;
+        // The smallest record has a message of one byte.
         let indexes = empty_indexes(heap, groups, size / (LEAD + 2 + 1))?;
         Ok(Records {
             bytes,

@@ -63,32 +63,52 @@ fn sha256_of_published_texts(rt: HostRuntime) {
     assert_eq!(rt; hex(&written), *of_last);
 }
 
-// Lengths about the ends of blocks, and the million of FIPS 180-4.
-const LENGTHS: [usize; 8] = [55, 56, 63, 64, 65, 119, 120, 1000000];
-
-// The digests of so many letters a.
-const DIGESTS: [[u8; 64]; 8] = [
-    *b"9f4390f8d30c2dd92ec9f095b65e2b9ae9b0a925a5258e241c9f1e910f734318",
-    *b"b35439a4ac6f0948b6d6f9e3c6af0f5f590ce20f1bde7090ef7970686ec6738a",
-    *b"7d3e74a05d7db15bce4ad9ec0658ea98e3f06eeecf16b4c6fff2da457ddc2f34",
-    *b"ffe054fe7ae0cb6dc65c3af9b61d5209f439851db43d0ba5997337df154668eb",
-    *b"635361c48bb9eab14198e76ea8ab7f1a41685d6ad62aa9146d301d4f17eb0ae0",
-    *b"31eba51c313a5c08226adf18d4a359cfdfd8d2e816b13f4af952f7ea6584dcfb",
-    *b"2f3d335432c70b580af0e8e1b3674a7c020d683aa5f73aaaedfdc55af904c21c",
-    *b"cdc76e5c9914fb9281a1c7e284d73e67f1809a48a497200e046d39ccc7112cd0",
+// Lengths about the ends of blocks, and the million of FIPS 180-4, each with the digest of so many letters a.
+const REPEATED: [(usize, &[u8; 64]); 8] = [
+    (
+        55,
+        b"9f4390f8d30c2dd92ec9f095b65e2b9ae9b0a925a5258e241c9f1e910f734318",
+    ),
+    (
+        56,
+        b"b35439a4ac6f0948b6d6f9e3c6af0f5f590ce20f1bde7090ef7970686ec6738a",
+    ),
+    (
+        63,
+        b"7d3e74a05d7db15bce4ad9ec0658ea98e3f06eeecf16b4c6fff2da457ddc2f34",
+    ),
+    (
+        64,
+        b"ffe054fe7ae0cb6dc65c3af9b61d5209f439851db43d0ba5997337df154668eb",
+    ),
+    (
+        65,
+        b"635361c48bb9eab14198e76ea8ab7f1a41685d6ad62aa9146d301d4f17eb0ae0",
+    ),
+    (
+        119,
+        b"31eba51c313a5c08226adf18d4a359cfdfd8d2e816b13f4af952f7ea6584dcfb",
+    ),
+    (
+        120,
+        b"2f3d335432c70b580af0e8e1b3674a7c020d683aa5f73aaaedfdc55af904c21c",
+    ),
+    (
+        1000000,
+        b"cdc76e5c9914fb9281a1c7e284d73e67f1809a48a497200e046d39ccc7112cd0",
+    ),
 ];
 
 #[test]
 fn sha256_of_repeated_letters(rt: HostRuntime) -> Result<(), Fail> {
     let letters = vec![in rt.alloc(); b'a'; 1000000]?;
-    for (len, expected) in LENGTHS.iter().zip(DIGESTS.iter()) {
-        let message = letters.get(..*len).ok_or("too few letters")?;
-        assert_eq!(rt; hex(&sha256(message)), *expected);
+    for (len, digest) in REPEATED {
+        let message = letters.get(..len).ok_or("too few letters")?;
+        assert_eq!(rt; hex(&sha256(message)), *digest);
     }
     Ok(())
 }
 
-// Test cases 1 to 5 of RFC 4231, which has the first 16 bytes of the fifth, and a key that needs no filling.
 #[test]
 fn hmac_of_published_keys(rt: HostRuntime) {
     let counted =

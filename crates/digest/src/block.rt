@@ -5,7 +5,8 @@ ghost use Rattle.digest.specs.Block.{compress, hashed, round, rounds, schedule, 
 
 use crate::words::{big_sigma, choose, majority, small_sigma};
 
-/// Eight words: a hash value, or the working variables within a block, by the letters that the standard gives them.
+/// Eight words: a hash value, or the working variables a to h within a block. The standard names them, and an array would
+/// number them.
 #[derive(Clone, Copy)]
 pub struct State {
     pub a: u32,

@@ -59,8 +59,7 @@ pub fn hmac(key: &[u8; 32], message: &[u8]) -> [u8; 32]
 pub fn club_register_sha256(message: &[u8], digest: &mut [u8; 32])
     ensures { digest.new ≡ sha256 message.now }
 {
-    let made = sha256(message);
-    *digest = made;
+    *digest = sha256(message);
 }
 
 /// The definitions that the contracts cite give the published values.

@@ -31,7 +31,7 @@ fn print_body(rt: &impl Print, message: &[u8], body: &Body) -> io::Result<()> {
     let name = name_of(message);
     let nonce = body.nonce();
     println!(rt; "body, {} bytes", message.len())?;
-    println!(rt; "  name {}", Hex(name.as_slice()))?;
+    println!(rt; "  name {}", Hex(&name.bytes))?;
     println!(rt; "  nonce {nonce}")?;
     for operation in body.operations() {
         print_operation(rt, operation)?;
@@ -41,13 +41,13 @@ fn print_body(rt: &impl Print, message: &[u8], body: &Body) -> io::Result<()> {
 
 fn print_proposal(rt: &impl Print, message: &[u8], name: &Name) -> io::Result<()> {
     println!(rt; "proposal to abort, {} bytes", message.len())?;
-    println!(rt; "  name {}", Hex(name.as_slice()))
+    println!(rt; "  name {}", Hex(&name.bytes))
 }
 
 fn print_certificate(rt: &impl Print, message: &[u8], certificate: &Certificate) -> io::Result<()> {
     let name = certificate.name();
     println!(rt; "certificate, {} bytes", message.len())?;
-    println!(rt; "  name {}", Hex(name.as_slice()))?;
+    println!(rt; "  name {}", Hex(&name.bytes))?;
     println!(rt; "  vote {}", certificate.vote())?;
     for entry in certificate.entries() {
         let group = entry.group;
@@ -61,7 +61,7 @@ fn print_certificate(rt: &impl Print, message: &[u8], certificate: &Certificate)
 }
 
 fn print_blocker(rt: &impl Print, blocker: &Blocker) -> io::Result<()> {
-    print!(rt; "  blocker {} groups", Hex(blocker.name.as_slice()))?;
+    print!(rt; "  blocker {} groups", Hex(&blocker.name.bytes))?;
     for group in (0..8u8).filter(|group| blocker.groups.contains(*group)) {
         print!(rt; " {group}")?;
     }
@@ -73,7 +73,7 @@ fn print_answer(rt: &impl Print, message: &[u8], answer: &Answer) -> io::Result<
     let replica = answer.replica;
     let ground = answer.ground;
     println!(rt; "answer, {} bytes", message.len())?;
-    println!(rt; "  name {}", Hex(answer.name.as_slice()))?;
+    println!(rt; "  name {}", Hex(&answer.name.bytes))?;
     println!(rt;
         "  group {group} replica {replica} mark {}",
         Hex(answer.mark.as_slice())

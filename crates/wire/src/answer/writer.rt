@@ -32,7 +32,7 @@ fn blocker_size(blocker: Option<Blocker>) -> usize
     ensures few { result ≤ 33 }
 {
     match blocker {
-        Some(blocker) => blocker.name.as_slice().len() + 1,
+        Some(blocker) => blocker.name.bytes.len() + 1,
         None => 0,
     }
 }
@@ -45,7 +45,7 @@ fn write_blocker(out: &mut [u8], at: usize, blocker: Option<Blocker>) -> usize
 {
     match blocker {
         Some(blocker) => {
-            let next = put(out, at, blocker.name.as_slice());
+            let next = put(out, at, &blocker.name.bytes);
             put(out, next, &[blocker.groups.bits])
         }
         None => at,
@@ -58,7 +58,7 @@ fn contents_size(answer: &Answer) -> usize
     ensures whole { result ≡ length (answer_contents (answer_model answer.now)) }
     ensures few { result ≤ 1024 }
 {
-    let name = answer.name.as_slice();
+    let name: &[u8] = &answer.name.bytes;
     let mark = answer.mark.as_slice();
     let reads = answer.reads.as_slice();
     let end = blocker_size(answer.ground.blocker());
@@ -72,7 +72,7 @@ fn write_head(out: &mut [u8], at: usize, answer: &Answer) -> usize
     ensures end { result ≡ at + 37 }
     ensures size { length (head_bytes (head_of (answer_model answer.now))) ≡ 37 }
 {
-    let next = put(out, at, answer.name.as_slice());
+    let next = put(out, at, &answer.name.bytes);
     let vote = u8::from(answer.vote);
     let state = u8::from(answer.state);
     let ground = u8::from(answer.ground);

@@ -8,13 +8,13 @@ pub put-next-requires : goal.put-next-requires
 put-next-requires c =
     let b = c.in-Some.blocker in
     let is = ap (λ o. length (blocker_bytes o)) c.in-Some.is ∙ length-append b.name.bytes (b.groups.bits ∷ []) in
-    omega (arith, is, ap length c.as_slice.ensures.value)
+    omega (arith, is)
 
 pub put-requires : goal.put-requires
 put-requires c =
     let b = c.in-Some.blocker in
     let is = ap (λ o. length (blocker_bytes o)) c.in-Some.is ∙ length-append b.name.bytes (b.groups.bits ∷ []) in
-    omega (arith, is, ap length c.as_slice.ensures.value, c.put-next.ensures.end)
+    omega (arith, is, c.put-next.ensures.end)
 
 pub returns-in-Some : goal.returns-in-Some
 returns-in-Some c =
@@ -22,16 +22,14 @@ returns-in-Some c =
     let out = c.args.out.now in
     let at = c.args.at in
     let bits = b.groups.bits ∷ [] in
-    let name = c.as_slice.ensures.value in
     let first = c.put-next.ensures in
     let last = c.put.ensures in
     let is = ap (λ o. length (blocker_bytes o)) c.in-Some.is ∙ length-append b.name.bytes bits in
     let whole =
-    overlaid_more out b.name.bytes bits _ bits _ at _ (omega arith) (first.after ∙ ap (overlaid out at) name)
-    (omega (arith, first.end, ap length name)) refl last.after in
+    overlaid_more out b.name.bytes bits _ bits _ at _ (omega arith) first.after first.end refl last.after in
     record {
       after = whole ∙ ap (λ o. overlaid out at (blocker_bytes o)) (sym c.in-Some.is);
-      end = omega (arith, is, ap length name, first.end, last.end);
+      end = omega (arith, is, first.end, last.end);
     }
 
 pub returns-in-None : goal.returns-in-None

@@ -1,3 +1,2 @@
 pub mod BodyParts
-pub mod BodyWrites
 pub mod OneOperation

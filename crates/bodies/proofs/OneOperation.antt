@@ -50,9 +50,3 @@ same_operation (Compare j v) (Compare k w) s t f g e =
     let h = same_key j k (bytes64 v ++ s) (bytes64 w ++ t) f.0 g.0 (cc) in
     let i = same_value v w s t f.1 g.1 h.1 in
     (cc (h.0, i.0), i.1)
-
--- an operation takes at most 13 bytes
-pub operation_small : (o : Operation) → length (operation_bytes o) ≤ 13
-operation_small (Read k) = omega arith
-operation_small (Write k v) = omega arith
-operation_small (Compare k v) = omega arith

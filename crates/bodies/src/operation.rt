@@ -1,11 +1,13 @@
 // One operation of a transaction, and how it is read and written.
-ghost use Rattle.std.specs.Prelude.{◌≡◌, ◌+◌, ◌≤◌, ◌∷◌, ◌++◌, length};
-ghost use Rattle.octets.specs.Buffers.{overlaid};
+ghost use Rattle.std.specs.Prelude.{◌≡◌, ◌∷◌, ◌++◌};
 ghost use Rattle.octets.specs.Fronts.{Front};
 ghost use Rattle.octets.specs.Numbers.{bytes64};
+ghost use Rattle.octets.specs.Writers.{optional};
 ghost use Rattle.bodies.specs.Operations.{OperationFits, is_read, is_write, key_bytes, key_of, operation_bytes, writes_to};
 
-use octets::{put, put_u64, read_u32, read_u64};
+use octets::fixed::read_fixed;
+use octets::writer::Writer;
+use octets::written::Written;
 
 /// What a transaction does to one key.
 #[derive(Clone, Copy, Debug, PartialEq, Eq)]
@@ -59,11 +61,11 @@ pub(crate) fn read_operation(text: &[u8]) -> Option<(Operation, &[u8])>
     let [code, rest @ ..] = text else {
         return None;
     };
-    let (key, rest) = read_u32(rest)?;
+    let (key, rest) = read_fixed(rest)?;
     if *code == 1 {
         return Some((Operation::Read { key }, rest));
     }
-    let (value, rest) = read_u64(rest)?;
+    let (value, rest) = read_fixed(rest)?;
     match *code {
         2 => Some((Operation::Write { key, value }, rest)),
         3 => Some((Operation::Compare { key, value }, rest)),
@@ -71,6 +73,7 @@ pub(crate) fn read_operation(text: &[u8]) -> Option<(Operation, &[u8])>
     }
 }
 
+ghost use Rattle.octets.specs.Writers.{optional};
 // How many bytes the operation is written in.
 pub(crate) fn operation_size(operation: &Operation) -> usize
     ensures size { result ≡ length (operation_bytes operation.now) }
@@ -90,35 +93,25 @@ pub(crate) fn operation_size(operation: &Operation) -> usize
     }
 }
 
-// Writes a code and a key into `out` from `at` on, and answers where they end.
-fn write_keyed(out: &mut [u8], at: usize, code: u8, key: u32) -> usize
-    requires { at + 5 ≤ length out.old }
-    ensures after { out.new ≡ overlaid out.old at (code ∷ key_bytes key) }
-    ensures end { result ≡ at + 5 }
-{
-    let [a, b, c, d] = key.to_be_bytes();
-    put(out, at, &[code, a, b, c, d])
-}
+impl Written for Operation {
+    ghost text = { operation_bytes };
 
-// Writes a code, a key and a value likewise.
-fn write_valued(out: &mut [u8], at: usize, code: u8, key: u32, value: u64) -> usize
-    requires { at + 13 ≤ length out.old }
-    ensures after { out.new ≡ overlaid out.old at (code ∷ (key_bytes key ++ bytes64 value)) }
-    ensures end { result ≡ at + 13 }
-{
-    let next = write_keyed(out, at, code, key);
-    put_u64(out, next, value)
-}
+    ghost most = { 13 };
 
-// Writes the operation into `out` from `at` on, and answers where it ends. The caller has seen that it fits.
-pub(crate) fn write_operation(out: &mut [u8], at: usize, operation: &Operation) -> usize
-    requires { at + length (operation_bytes operation.now) ≤ length out.old }
-    ensures after { out.new ≡ overlaid out.old at (operation_bytes operation.now) }
-    ensures end { result ≡ at + length (operation_bytes operation.now) }
-{
-    match *operation {
-        Operation::Read { key } => write_keyed(out, at, 1, key),
-        Operation::Write { key, value } => write_valued(out, at, 2, key, value),
-        Operation::Compare { key, value } => write_valued(out, at, 3, key, value),
+    ghost fits = { OperationFits };
+
+    fn size(&self) -> usize {
+        match self {
+            Operation::Read { key } => 1 + key.size(),
+            Operation::Write { key, value } => 1 + key.size() + value.size(),
+            Operation::Compare { key, value } => 1 + key.size() + value.size(),
+        }
+    }
+
+    fn write(&self, writer: &mut Writer<'_>) {
+        let (code, key, value) = self.parts();
+        writer.put(&[code]);
+        key.write(writer);
+        value.write(writer);
     }
 }

@@ -1,3 +1,2 @@
 pub mod Envelopes
-pub mod SequenceWrites
 pub mod Sequences

@@ -33,6 +33,11 @@ abbrev pub Reads : {C X : Type 0} → Format X → (C → X) → List ℕ → Re
 Reads F model bs (Ok c) = Writing F bs (model c)
 Reads {C} {X} F model bs (Err f) = (f ≡ Malformed) × ((x : X) → Writing F bs x → ⊥)
 
+-- bs is a message of a kind, of whose rest this was read; or what is read of the rest of such a message is nothing
+unfoldable pub Opened : {C : Type 0} → ℕ → (List ℕ → Option C → Type 0) → List ℕ → Result C ReadFault → Type 0
+Opened kind read bs (Ok c) = (rest : List ℕ) × Short rest × (bs ≡ message kind rest) × read rest (Some c)
+Opened kind read bs (Err f) = (f ≡ Malformed) × ((rest : List ℕ) → Short rest → bs ≡ message kind rest → read rest None)
+
 -- how a writer of this text answers: the text's length, or that the buffer is too short for it
 abbrev pub write_answer : List ℕ → List ℕ → Result ℕ WriteFault
 write_answer text buffer = cond (nat_le (length text) (length buffer)) (Ok (length text)) (Err ShortBuffer)

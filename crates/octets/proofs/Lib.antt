@@ -1,3 +1,4 @@
 pub mod Begins
 pub mod OneWriting
 pub mod Overlays
+pub mod Writes

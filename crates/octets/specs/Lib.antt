@@ -1,3 +1,4 @@
 pub mod Buffers
 pub mod Fronts
 pub mod Numbers
+pub mod Writers

@@ -1,10 +1,9 @@
 -- The kind byte tells which reading there can be.
-use Rattle.std.proofs.Common.{◌≡◌, ℕ, ◌≤◌, eqb, ◌⊎◌, List, get_or, Some, None, Option, ap, inl, inr, ⊎_elim, arith}
-use Rattle.std.proofs.lemmas.Bool.{and_parts, cases_eq, eqb-true}
+use Rattle.std.proofs.Common.{◌≡◌, ℕ, ◌≤◌, ◌⊎◌, List, get_or, Some, None, Option, sym, refl, ap, subst, inl, inr, ⊎_elim, arith}
+use Rattle.std.proofs.lemmas.Bool.{cases_eq}
 use Rattle.bodies.specs.Bodies.{body_format, body_model}
-use Rattle.envelope.specs.Formats.{Format, Writing}
+use Rattle.envelope.specs.Formats.{Format, Writing, written}
 use Rattle.envelope.specs.Messages.{answer_kind, body_kind, certificate_kind, proposal_kind}
-use Rattle.envelope.proofs.Envelopes.{opens}
 use Rattle.wire.specs.Answers.{answer_format, answer_model}
 use Rattle.wire.specs.Certificates.{certificate_format, certificate_model}
 use Rattle.wire.specs.Proposals.{proposal_format, proposed}
@@ -22,13 +21,9 @@ use Rattle.readings.proofs.Readings.{nothing_read}
 
 -- a writing begins as its kind does
 pub has_kind : {X : Type 0} (F : Format X) (bs : List ℕ) (x : X) → Writing F bs x → HasKind F.kind bs
+unfolding written
 has_kind F bs x w =
-    let o = opens F bs x w in
-    record {
-      long = o.long;
-      first = o.version;
-      next = eqb-true _ _ (and_parts (eqb (get_or bs 3 0) F.kind) _ o.test).0;
-    }
+    subst (HasKind F.kind) (sym w.whole) (record { long = omega arith; first = refl; next = refl })
 
 of_kind : {C X : Type 0} (F : Format X) (model : C → X) (read : List ℕ → Option X) → SameReading F model read
     → OfKind F.kind read

@@ -1,7 +1,7 @@
 -- A ground is told by its byte and by what the answer ends with.
 use Rattle.std.proofs.Common.{◌≡◌, ℕ, ◌+◌, ◌<◌, Bool, true, false, cond, eqb, List, [], ◌∷◌, ◌++◌, length, get_or, take, drop, Some, None, sym, refl, ap, ◌∙◌, subst, ap₂, arith, length-append, take-append-drop}
 use Rattle.std.specs.List.{AllByRecursion}
-use Rattle.std.proofs.lemmas.List.{get_or_at, get_or-drop, length-drop, take_at}
+use Rattle.std.proofs.lemmas.List.{drop_at, get_or_at, get_or-drop, length-drop, take_at}
 use Rattle.std.proofs.lemmas.Bool.{cond-false, cond-true, eq-eqb, eqb-true, ne_eqb}
 use Rattle.votes.specs.Bytes.{with_byte}
 use Rattle.votes.specs.Grounds.{GroundFits, blocked_by, ground_byte, ground_end, ground_of}
@@ -13,11 +13,13 @@ pub no_blocker : (end : List ℕ) → (length end ≡ 33 → ⊥) → None ≡ b
 no_blocker end other = sym (cond-false _ _ _ (ne_eqb _ _ other))
 
 -- a name and one byte
-pub the_blocker : (end name rest : List ℕ) → name ≡ take 32 end → rest ≡ drop 32 end → length rest + 32 ≡ length end
-    → length rest ≡ 1
+pub the_blocker : (end name rest : List ℕ) → length name ≡ 32 → end ≡ name ++ rest → length rest ≡ 1
     → Some (Blocked (record { name = record { bytes = name }; groups = record { bits = get_or rest 0 0 } })) ≡ blocked_by end
-the_blocker end name rest front back size one =
+the_blocker end name rest wide whole one =
+    let front : name ≡ take 32 end = sym (ap (take 32) whole ∙ take_at name rest 32 wide) in
+    let back : rest ≡ drop 32 end = sym (ap (drop 32) whole ∙ drop_at name rest 32 wide) in
     let bits : get_or rest 0 0 ≡ get_or end 32 0 = ap (λ l. get_or l 0 0) back ∙ get_or-drop 32 end 0 0 in
+    let size = ap length whole ∙ length-append name rest in
     ap₂ (λ n b. Some (Blocked (record { name = record { bytes = n }; groups = record { bits = b } }))) front bits
     ∙ sym (cond-true _ _ _ (eq-eqb (length end) 33 (omega arith)))
 

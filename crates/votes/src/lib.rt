@@ -11,3 +11,4 @@ pub mod state;
 pub mod statement;
 pub mod values;
 pub mod vote;
+pub mod writing;

@@ -4,7 +4,7 @@ ghost use Rattle.votes.specs.Statements.{OneStatement, statement_bytes};
 
 use envelope::message::VERSION;
 use envelope::name::Name;
-use octets::put;
+use octets::writer::Writer;
 
 /// How many bytes a statement has.
 pub const STATEMENT_SIZE: usize = 36;
@@ -24,8 +24,9 @@ impl Statement {
         ensures { result ≡ statement_bytes self.now }
     {
         let mut out = [0; STATEMENT_SIZE];
-        let next = put(&mut out, 0, &[VERSION, self.group, self.replica, self.vote]);
-        put(&mut out, next, &self.name.bytes);
+        let mut writer = Writer::new(&mut out);
+        writer.put(&[VERSION, self.group, self.replica, self.vote]);
+        writer.put(&self.name.bytes);
         out
     }
 }

@@ -87,10 +87,6 @@ values_bytes vs = length vs ∷ flat_map bytes64 vs
 abbrev pub answer_contents : AnswerModel → List ℕ
 answer_contents a = head_bytes (head_of a) ++ (a.mark ++ (values_bytes a.reads ++ ground_end a.ground))
 
--- how many bytes the contents of the code's answer have
-abbrev pub contents_size : Answer → ℕ
-contents_size a = 38 + (length (mark_bytes a.mark) + (8 * length (listed a.reads) + length (ground_end a.ground)))
-
 -- answers with a mark of m bytes, as a kind of message
 abbrev pub answer_format : ℕ → Format AnswerModel
 answer_format m = record { kind = answer_kind; Fits = AnswerFits m; contents = answer_contents }

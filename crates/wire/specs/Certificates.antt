@@ -36,10 +36,6 @@ abbrev pub certificate_contents : CertificateModel → List ℕ
 certificate_contents c =
     name_bytes c.name ++ (vote_byte c.vote ∷ length c.entries ∷ flat_map entry_bytes c.entries)
 
--- the same of the code's entries
-abbrev pub contents_of : Name → Vote → List Entry → List ℕ
-contents_of x v es = name_bytes x ++ (vote_byte v ∷ length es ∷ flat_map entry_text es)
-
 -- certificates with marks of m bytes, as a kind of message
 abbrev pub certificate_format : ℕ → Format CertificateModel
 certificate_format m = record { kind = certificate_kind; Fits = CertificateFits m; contents = certificate_contents }

@@ -3,17 +3,16 @@ ghost use Rattle.std.specs.Prelude.{◌≡◌};
 ghost use Rattle.envelope.specs.Formats.{OneWriting, Reads, ReadsContents, RoundTrip, write_after, write_answer, written};
 ghost use Rattle.wire.specs.Proposals.{proposal_format, proposed};
 
-use crate::field::read_name;
 use envelope::fault::{ReadFault, WriteFault};
-use envelope::message::{HEADER_SIZE, PROPOSAL_KIND, is_message, write_header};
+use envelope::message::{Kind, read_message, write_message};
 use envelope::name::Name;
-use octets::put;
+use octets::fixed::read_fixed;
 
 // The name that `text`, which follows the kind byte, is.
 fn read_contents(text: &[u8]) -> Option<Name>
     ensures { ReadsContents proposal_format proposed text.now result }
 {
-    let (name, rest) = read_name(text)?;
+    let (name, rest) = read_fixed::<32, Name>(text)?;
     if rest.is_empty() { Some(name) } else { None }
 }
 
@@ -21,28 +20,16 @@ fn read_contents(text: &[u8]) -> Option<Name>
 pub fn read_proposal(bytes: &[u8]) -> Result<Name, ReadFault>
     ensures { Reads proposal_format proposed bytes.now result }
 {
-    let [high, low, 1, kind, rest @ ..] = bytes else {
-        return Err(ReadFault::Malformed);
-    };
-    if !is_message(PROPOSAL_KIND, *high, *low, *kind, rest) {
-        return Err(ReadFault::Malformed);
-    }
-    match read_contents(rest) {
-        Some(name) => Ok(name),
-        None => Err(ReadFault::Malformed),
-    }
+    read_message(Kind::Proposal, bytes, read_contents)
 }
 
 /// Writes the proposal's one writing into `out` and answers its length, or refuses and leaves `out` as it was.
+#[tactic(auto, unfolding(envelope::specs::Formats::written))]
 pub fn write_proposal(name: &Name, out: &mut [u8]) -> Result<usize, WriteFault>
     ensures answer { result ≡ write_answer (written proposal_format name.now) out.old }
     ensures after { out.new ≡ write_after (written proposal_format name.now) out.old }
 {
-    if out.len() < HEADER_SIZE + 32 {
-        return Err(WriteFault::ShortBuffer);
-    }
-    let next = write_header(out, PROPOSAL_KIND, 32);
-    Ok(put(out, next, &name.bytes))
+    write_message(Kind::Proposal, name, out)
 }
 
 /// Two different names never share a proposal, and reading undoes writing.

@@ -8,8 +8,8 @@ use crate::operation::read_operation;
 use crate::operations::list::writes_apart;
 use crate::operations::{FILLER, MOST_OPERATIONS, Operations};
 use envelope::fault::ReadFault;
-use envelope::message::{BODY_KIND, is_message};
-use octets::read_u64;
+use envelope::message::{Kind, read_message};
+use octets::fixed::read_fixed;
 
 // The operations that `text` is, `count` of them and nothing after.
 fn read_operations(count: u8, text: &[u8]) -> Option<Operations>
@@ -34,7 +34,7 @@ fn read_operations(count: u8, text: &[u8]) -> Option<Operations>
 fn read_contents(text: &[u8]) -> Option<Body>
     ensures { ReadsContents body_format body_model text.now result }
 {
-    let (nonce, rest) = read_u64(text)?;
+    let (nonce, rest) = read_fixed(text)?;
     let [count, rest @ ..] = rest else {
         return None;
     };
@@ -53,16 +53,7 @@ fn read_contents(text: &[u8]) -> Option<Body>
 pub fn read_body(bytes: &[u8]) -> Result<Body, ReadFault>
     ensures { Reads body_format body_model bytes.now result }
 {
-    let [high, low, 1, kind, rest @ ..] = bytes else {
-        return Err(ReadFault::Malformed);
-    };
-    if !is_message(BODY_KIND, *high, *low, *kind, rest) {
-        return Err(ReadFault::Malformed);
-    }
-    match read_contents(rest) {
-        Some(body) => Ok(body),
-        None => Err(ReadFault::Malformed),
-    }
+    read_message(Kind::Body, bytes, read_contents)
 }
 
 /// Two different well-formed bodies never share a writing, and reading undoes writing.

@@ -6,11 +6,11 @@ ghost use Rattle.wire.specs.Answers.{FirstValues, HeadFits, answer_format, answe
 ghost use Rattle.votes.specs.Grounds.{FoundFits, blocked_by, ground_of};
 
 use crate::answer::Answer;
-use crate::field::{read_name, split_bytes};
+use crate::field::split_bytes;
 use envelope::fault::ReadFault;
-use envelope::message::{ANSWER_KIND, is_message};
+use envelope::message::{Kind, read_message};
 use envelope::name::Name;
-use octets::read_u64;
+use octets::fixed::read_fixed;
 use votes::ground::{Blocker, Ground, GroupSet};
 use votes::mark::Mark;
 use votes::state::State;
@@ -32,7 +32,7 @@ pub struct Head {
 fn read_head(text: &[u8]) -> Option<(Head, &[u8])>
     ensures { Front HeadFits head_bytes text.now result }
 {
-    let (name, rest) = read_name(text)?;
+    let (name, rest) = read_fixed(text)?;
     let [group, replica, vote, state, ground, rest @ ..] = rest else {
         return None;
     };
@@ -60,7 +60,7 @@ fn read_values(text: &[u8]) -> Option<(Values, &[u8])>
     let mut values = Values::new(0);
     let mut rest = rest;
     for i in 0..*count {
-        let (value, after) = read_u64(rest)?;
+        let (value, after) = read_fixed(rest)?;
         values.push(value);
         rest = after;
     }
@@ -72,13 +72,12 @@ fn read_blocker(end: &[u8]) -> Option<Ground>
     ensures value { result ≡ blocked_by end.now }
     ensures fits { FoundFits result }
 {
-    let (name, rest) = end.split_first_chunk::<32>()?;
+    let (name, rest) = read_fixed(end)?;
     let [bits] = rest else {
         return None;
     };
-    let bytes = *name;
     let blocker = Blocker {
-        name: Name { bytes },
+        name,
         groups: GroupSet { bits: *bits },
     };
     Some(Ground::Blocked(blocker))
@@ -131,16 +130,7 @@ fn read_contents(width: usize, text: &[u8]) -> Option<Answer>
 pub fn read_answer(width: usize, bytes: &[u8]) -> Result<Answer, ReadFault>
     ensures { Reads (answer_format width) answer_model bytes.now result }
 {
-    let [high, low, 1, kind, rest @ ..] = bytes else {
-        return Err(ReadFault::Malformed);
-    };
-    if !is_message(ANSWER_KIND, *high, *low, *kind, rest) {
-        return Err(ReadFault::Malformed);
-    }
-    match read_contents(width, rest) {
-        Some(answer) => Ok(answer),
-        None => Err(ReadFault::Malformed),
-    }
+    read_message(Kind::Answer, bytes, |text| read_contents(width, text))
 }
 
 /// Two different well-formed answers never share a writing, and reading undoes writing.

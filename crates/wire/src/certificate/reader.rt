@@ -6,9 +6,10 @@ ghost use Rattle.votes.specs.Entries.{most_entries};
 ghost use Rattle.wire.specs.EntryFronts.{FirstEntry};
 
 use crate::certificate::Certificate;
-use crate::field::{read_name, split_bytes};
+use crate::field::split_bytes;
 use envelope::fault::ReadFault;
-use envelope::message::{CERTIFICATE_KIND, is_message};
+use envelope::message::{Kind, read_message};
+use octets::fixed::read_fixed;
 use votes::entry::{Entries, Entry, MOST_ENTRIES};
 use votes::mark::Mark;
 use votes::vote::Vote;
@@ -53,7 +54,7 @@ fn read_entries(width: usize, count: u8, text: &[u8]) -> Option<Entries>
 fn read_contents(width: usize, text: &[u8]) -> Option<Certificate>
     ensures { ReadsContents (certificate_format width) certificate_model text.now result }
 {
-    let (name, rest) = read_name(text)?;
+    let (name, rest) = read_fixed(text)?;
     let [vote, count, rest @ ..] = rest else {
         return None;
     };
@@ -69,16 +70,7 @@ fn read_contents(width: usize, text: &[u8]) -> Option<Certificate>
 pub fn read_certificate(width: usize, bytes: &[u8]) -> Result<Certificate, ReadFault>
     ensures { Reads (certificate_format width) certificate_model bytes.now result }
 {
-    let [high, low, 1, kind, rest @ ..] = bytes else {
-        return Err(ReadFault::Malformed);
-    };
-    if !is_message(CERTIFICATE_KIND, *high, *low, *kind, rest) {
-        return Err(ReadFault::Malformed);
-    }
-    match read_contents(width, rest) {
-        Some(certificate) => Ok(certificate),
-        None => Err(ReadFault::Malformed),
-    }
+    read_message(Kind::Certificate, bytes, |text| read_contents(width, text))
 }
 
 /// Two different well-formed certificates never share a writing, and reading undoes writing.

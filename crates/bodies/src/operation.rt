@@ -73,23 +73,16 @@ pub(crate) fn read_operation(text: &[u8]) -> Option<(Operation, &[u8])>
     }
 }
 
-ghost use Rattle.octets.specs.Writers.{optional};
-// How many bytes the operation is written in.
-pub(crate) fn operation_size(operation: &Operation) -> usize
-    ensures size { result ≡ length (operation_bytes operation.now) }
-    ensures few { result ≤ 13 }
-    ensures fits { OperationFits operation.now }
-{
-    match *operation {
-        Operation::Read { key: _key } => 5,
-        Operation::Write {
-            key: _key,
-            value: _value,
+impl Operation {
+    // The code, the key and, but for a read, the value.
+    fn parts(&self) -> (u8, u32, Option<u64>)
+        ensures { operation_bytes self.now ≡ result.0 ∷ (key_bytes result.1 ++ optional bytes64 result.2) }
+    {
+        match *self {
+            Operation::Read { key } => (1, key, None),
+            Operation::Write { key, value } => (2, key, Some(value)),
+            Operation::Compare { key, value } => (3, key, Some(value)),
         }
-        | Operation::Compare {
-            key: _key,
-            value: _value,
-        } => 13,
     }
 }
 

@@ -3,7 +3,7 @@ use Rattle.std.proofs.Common.{◌≡◌, ℕ, List, [], ◌∷◌, ◌++◌, map
 use Rattle.std.specs.List.{flat_map}
 use Rattle.std.proofs.lemmas.List.{length-map}
 use Rattle.envelope.specs.declared.name.Name.{Name}
-use Rattle.wire.specs.Certificates.{CertificateModel, certificate_contents, contents_of}
+use Rattle.wire.specs.Certificates.{CertificateModel, certificate_contents}
 use Rattle.votes.specs.Entries.{entry_bytes, entry_text, shown}
 use Rattle.wire.specs.Fields.{NameFits, name_bytes}
 use Rattle.votes.specs.Votes.{vote_byte}

@@ -24,7 +24,7 @@ impl Written for Certificate {
     fn write(&self, writer: &mut Writer<'_>) {
         let entries = self.entries();
         self.name.write(writer);
-        writer.put(&[self.vote.into(), entries.len() as u8]);
+        writer.put(&[u8::from(self.vote), entries.len() as u8]);
         write_all(entries, writer);
     }
 }

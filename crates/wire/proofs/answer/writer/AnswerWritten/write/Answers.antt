@@ -7,8 +7,8 @@ use Rattle.wire.proofs.answer.writer.AnswerWritten.write.Goals as goal
 
 pub write-requires-2 : goal.write-requires-2
 write-requires-2 c =
-    let same = pieces_written (answer_model c.args.self.now) _ _ _ _ _ _ c.byte-vote.ensures c.byte-state.ensures
-    c.byte-ground.ensures c.as_slice.ensures.value c.as_slice-reads.ensures.items c.blocker.ensures in
+    let same = pieces_written (answer_model c.args.self.now) _ _ _ _ _ _ c.from-vote.ensures c.from-state.ensures
+    c.from-ground.ensures c.as_slice.ensures.value c.as_slice-reads.ensures.items c.blocker.ensures in
     let two = wrote_more _ _ _ _ _ (omega arith) c.write.ensures c.put.ensures in
     let three = wrote_more _ _ _ _ _ (omega arith) two c.put-2.ensures in
     let four = wrote_more _ _ _ _ _ (omega arith) three c.put-3.ensures in
@@ -17,8 +17,8 @@ write-requires-2 c =
 
 pub returns : goal.returns
 returns c =
-    let same = pieces_written (answer_model c.args.self.now) _ _ _ _ _ _ c.byte-vote.ensures c.byte-state.ensures
-    c.byte-ground.ensures c.as_slice.ensures.value c.as_slice-reads.ensures.items c.blocker.ensures in
+    let same = pieces_written (answer_model c.args.self.now) _ _ _ _ _ _ c.from-vote.ensures c.from-state.ensures
+    c.from-ground.ensures c.as_slice.ensures.value c.as_slice-reads.ensures.items c.blocker.ensures in
     let two = wrote_more _ _ _ _ _ (omega arith) c.write.ensures c.put.ensures in
     let three = wrote_more _ _ _ _ _ (omega arith) two c.put-2.ensures in
     let four = wrote_more _ _ _ _ _ (omega arith) three c.put-3.ensures in

@@ -1,5 +1,5 @@
 -- An operation has one writing, and what the front of some bytes says of the operation that they begin with.
-use Rattle.std.proofs.Common.{◌≡◌, ℕ, ◌≤◌, List, ◌∷◌, ◌++◌, length, ap, arith}
+use Rattle.std.proofs.Common.{◌≡◌, ℕ, List, ◌∷◌, ◌++◌, ap, arith}
 use Rattle.octets.specs.Numbers.{Fits64, bytes64}
 use Rattle.octets.proofs.OneWriting.{same_number}
 use Rattle.bodies.specs.Operations.{KeyFits, OperationFits, key_bytes, operation_bytes}

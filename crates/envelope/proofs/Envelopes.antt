@@ -1,14 +1,9 @@
 -- What reading contents gives for the reader of a kind of message, and what one writing gives for every kind.
-use Rattle.std.proofs.Common.{◌≡◌, ℕ, ◌+◌, List, length, Some, None, Option, Ok, Err, Result, sym, refl, ap, ◌∙◌, subst, arith}
+use Rattle.std.proofs.Common.{◌≡◌, ℕ, List, Some, None, Option, Ok, Err, Result, sym, refl, ap, ◌∙◌, subst}
 use Rattle.std.specs.Borrow.{Bor}
 use Rattle.envelope.specs.Formats.{Format, Opened, OneWriting, Reads, ReadsContents, RoundTrip, written}
 use Rattle.envelope.specs.Messages.{Short, message}
 use Rattle.envelope.specs.declared.fault.ReadFault.{ReadFault}
-
--- a message has four bytes and then its contents
-pub length_written : {X : Type 0} (F : Format X) (x : X) → length (written F x) ≡ 4 + length (F.contents x)
-unfolding written
-length_written F x = omega arith
 
 -- messages of one kind that are written alike have the same contents
 pub same_contents : {X : Type 0} (F : Format X) (x y : X) → written F x ≡ written F y → F.contents x ≡ F.contents y

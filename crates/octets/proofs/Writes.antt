@@ -1,14 +1,11 @@
 -- One write after another, and a loop that writes the things of a list.
-use Rattle.std.proofs.Common.{◌≡◌, ℕ, ◌+◌, ◌*◌, ◌<◌, ◌≤◌, List, [], ◌∷◌, ◌++◌, length, get_or, take, refl, sym, ap, ◌∙◌, subst, arith, length-append}
+use Rattle.std.proofs.Common.{◌≡◌, ℕ, ◌+◌, ◌<◌, ◌≤◌, List, [], ◌∷◌, ◌++◌, length, get_or, take, refl, sym, ap, ◌∙◌, subst, arith, length-append}
 use Rattle.std.specs.List.{flat_map}
 use Rattle.std.proofs.lemmas.List.{take_all, take_more, flat_map_more}
 use Rattle.std.proofs.lemmas.List.Folds.{length-flat_map-take}
 use Rattle.octets.specs.Writers.{Room, Wrote}
 use Rattle.octets.specs.declared.writer.Writer.{Writer}
-use Rattle.octets.proofs.Overlays.{length_overlaid, overlaid_more, overlaid_none}
-
-pub wrote_none : (w : Writer) → Wrote w w []
-wrote_none w = record { same = refl; text = overlaid_none w.out.now w.at; end = omega arith }
+use Rattle.octets.proofs.Overlays.{length_overlaid, overlaid_more}
 
 module _ (a b : Writer) (xs : List ℕ) (h : Wrote a b xs) (ys : List ℕ) (room : Room a (xs ++ ys)) where
   -- what is left of the room
@@ -29,19 +26,13 @@ wrote_more a b c xs ys within h more =
 
 -- the things of a list, written one after another, up to x, which is the next
 module _ {X : Type 0} (writing : X → List ℕ) (xs : List X) where
-  pub joined_all : (i : ℕ) → length xs ≤ i → flat_map writing (take i xs) ≡ flat_map writing xs
-  joined_all i l = ap (flat_map writing) (take_all i xs l)
-
   module _ (i : ℕ) (l : i < length xs) (x : X) (is : x ≡ get_or xs i x) where
     joined_next : flat_map writing (take (i + 1) xs) ≡ flat_map writing (take i xs) ++ writing x
     joined_next =
         ap (flat_map writing) (take_more xs i x l ∙ ap (λ y. take i xs ++ (y ∷ [])) (sym is))
         ∙ sym (flat_map_more writing [] (take i xs) x)
 
-    pub size_next : length (flat_map writing (take (i + 1) xs)) ≡ length (flat_map writing (take i xs)) + length (writing x)
-    size_next = ap length joined_next ∙ length-append (flat_map writing (take i xs)) (writing x)
-
-    pub size_within : length (flat_map writing (take i xs)) + length (writing x) ≤ length (flat_map writing xs)
+    size_within : length (flat_map writing (take i xs)) + length (writing x) ≤ length (flat_map writing xs)
     size_within = omega (arith, length-flat_map-take writing xs i x l, ap (λ y. length (writing y)) is)
 
     module _ (a b : Writer) (room : Room a (flat_map writing xs)) (h : Wrote a b (flat_map writing (take i xs))) where
@@ -56,4 +47,4 @@ module _ {X : Type 0} (writing : X → List ℕ) (xs : List X) where
 
   pub wrote_all : (a b : Writer) (i : ℕ) → length xs ≤ i → Wrote a b (flat_map writing (take i xs))
       → Wrote a b (flat_map writing xs)
-  wrote_all a b i l h = subst (Wrote a b) (joined_all i l) h
+  wrote_all a b i l h = subst (λ ys. Wrote a b (flat_map writing ys)) (take_all i xs l) h

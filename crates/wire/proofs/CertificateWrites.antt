@@ -2,13 +2,11 @@
 use Rattle.std.proofs.Common.{◌≡◌, ℕ, List, [], ◌∷◌, ◌++◌, map, length, sym, refl, ap, ◌∙◌, append_assoc}
 use Rattle.std.specs.List.{flat_map}
 use Rattle.std.proofs.lemmas.List.{length-map}
-use Rattle.envelope.specs.declared.name.Name.{Name}
 use Rattle.wire.specs.Certificates.{CertificateModel, certificate_contents}
 use Rattle.votes.specs.Entries.{entry_bytes, entry_text, shown}
-use Rattle.wire.specs.Fields.{NameFits, name_bytes}
+use Rattle.wire.specs.Fields.{name_bytes}
 use Rattle.votes.specs.Votes.{vote_byte}
 use Rattle.votes.specs.declared.entry.Entry.{Entry}
-use Rattle.votes.specs.declared.vote.Vote.{Vote}
 
 joined_shown : (es : List Entry) → flat_map entry_text es ≡ flat_map entry_bytes (map shown es)
 joined_shown [] = refl

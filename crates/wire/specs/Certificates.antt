@@ -4,7 +4,7 @@ use Rattle.std.specs.List.{flat_map, AllByRecursion}
 use Rattle.envelope.specs.Formats.{Format, written}
 use Rattle.envelope.specs.Messages.{certificate_kind}
 use Rattle.envelope.specs.declared.name.Name.{Name}
-use Rattle.votes.specs.Entries.{EntryFits, EntryModel, entry_bytes, entry_text, most_entries, rises}
+use Rattle.votes.specs.Entries.{EntryFits, EntryModel, entry_bytes, most_entries, rises}
 use Rattle.votes.specs.EntryLists.{entry_list}
 use Rattle.lists.specs.declared.BoundedList.{BoundedList}
 use Rattle.wire.specs.Fields.{NameFits, name_bytes}

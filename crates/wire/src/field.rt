@@ -5,8 +5,5 @@ ghost use Rattle.wire.specs.Fields.{Splits};
 pub(crate) fn split_bytes(length: usize, text: &[u8]) -> Option<(&[u8], &[u8])>
     ensures { Splits length text.now result }
 {
-    if text.len() < length {
-        return None;
-    }
-    Some(text.split_at(length))
+    text.split_at_checked(length)
 }

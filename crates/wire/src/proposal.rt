@@ -12,8 +12,8 @@ use octets::fixed::read_fixed;
 fn read_contents(text: &[u8]) -> Option<Name>
     ensures { ReadsContents proposal_format proposed text.now result }
 {
-    let (name, rest) = read_fixed::<32, Name>(text)?;
-    if rest.is_empty() { Some(name) } else { None }
+    let (name, rest) = read_fixed(text)?;
+    rest.is_empty().then_some(name)
 }
 
 /// The name whose proposal `bytes` is the writing of.

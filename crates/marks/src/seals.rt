@@ -71,8 +71,10 @@ impl MarkScheme for Seals {
     }
 
     fn check(&self, statement: &Statement, mark: &[u8]) -> bool {
-        holder_at(statement.group, statement.replica)
-            .is_some_and(|at| equal_bytes(&seal(&self.holders[at].key, statement), mark))
+        holder_at(statement.group, statement.replica).is_some_and(|at| equal_bytes(
+            &seal(&self.holders[at].key, statement),
+            mark,
+        ))
     }
 }
 

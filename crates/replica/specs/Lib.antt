@@ -1,7 +1,6 @@
 pub mod Endings
 pub mod Meetings
 pub mod Models
-pub mod Places
 pub mod Readings
 pub mod Replies
 pub mod Searches

@@ -1,5 +1,6 @@
 -- What a message does to a replica, and what the replica answers.
 use Rattle.std.specs.Prelude.{ℕ, ◌+◌, Bool, cond, List, [], ◌∷◌, ◌++◌, length, Some, None, Ok, Err, Option, Result, nat_le, nat_lt}
+use Rattle.std.specs.List.{find}
 use Rattle.bodies.specs.declared.operation.Operation.{Operation}
 use Rattle.envelope.specs.declared.fault.ReadFault.TheVariants.{Malformed}
 use Rattle.envelope.specs.declared.name.Name.{Name}
@@ -24,7 +25,7 @@ use Rattle.votes.specs.declared.vote.Vote.TheVariants.{Commit, Abort}
 use Rattle.wire.specs.Certificates.{CertificateModel}
 use Rattle.replica.specs.Models.{Book, Config, ReplicaModel, ReplyModel, Transaction}
 use Rattle.replica.specs.Models.{is_conflicting, is_named, most_pending}
-use Rattle.replica.specs.Searches.{first, without}
+use Rattle.replica.specs.Searches.{without}
 use Rattle.replica.specs.declared.book.Delivered.{Delivered}
 use Rattle.replica.specs.declared.book.Delivered.TheVariants as delivered
 
@@ -48,8 +49,7 @@ end_of Abort = RolledBack
 abbrev pub state_after : State → Delivered → State
 state_after Pending delivered.Body = Pending
 state_after Pending delivered.Proposal = Pending
-state_after Pending delivered.CommitCertificate = Committed
-state_after Pending delivered.AbortCertificate = RolledBack
+state_after Pending (delivered.Certificate v) = end_of v
 state_after Committed d = Committed
 state_after RolledBack d = RolledBack
 state_after Declined d = Declined
@@ -100,7 +100,7 @@ module _ (C : Config) where
         vote = vote_on s;
         state = s;
         ground = known_ground s;
-        reads = known_reads m.rows s (first (is_named x) m.pending);
+        reads = known_reads m.rows s (find (is_named x) m.pending);
       }
 
   -- a known name is answered from its entry, and a new one needs space in the book
@@ -153,7 +153,7 @@ module _ (C : Config) where
   abbrev pub objection : ReplicaModel → List Operation → Option Ground
   objection m os =
       cond (lacks_row C.groups C.group m.rows os) (Some ground.NoRow)
-      (blocked_or (first (is_conflicting C.groups C.group os) m.pending) (late_objection m os))
+      (blocked_or (find (is_conflicting C.groups C.group os) m.pending) (late_objection m os))
 
   -- a new transaction is declined or pending
   abbrev pub decided : ReplicaModel → Transaction → Option Ground → ReplicaModel × Outcome
@@ -180,7 +180,7 @@ module _ (C : Config) where
   while_pending (Some Declined) t = None
 
   abbrev pub pending_at : ReplicaModel → Name → Option Transaction
-  pending_at m x = while_pending (lookup by_bytes m.book x) (first (is_named x) m.pending)
+  pending_at m x = while_pending (lookup by_bytes m.book x) (find (is_named x) m.pending)
 
   -- the rows of the replica then
   abbrev pub rows_after : Vote → List Operation → Rows → Rows

@@ -1,23 +1,25 @@
 -- What the code's replica holds, and what its replies say.
-use Rattle.std.specs.Prelude.{map, take, Ok, Err, vec_items, vec_len, Option, Result}
+use Rattle.std.specs.Prelude.{◌≡◌, ◌<◌, length, None, Ok, Err, vec_items, Option, Result}
 use Rattle.std.specs.Option.{option_map}
 use Rattle.lists.specs.Lists.{listed}
+use Rattle.envelope.specs.declared.name.Name.{Name}
+use Rattle.table.specs.Orders.{by_bytes}
+use Rattle.table.specs.Rows.{lookup}
 use Rattle.votes.specs.declared.fault.DeliveryFault.{DeliveryFault}
 use Rattle.votes.specs.declared.ground.Ground.{Ground}
 use Rattle.replica.specs.Models.{Config, ReplicaModel, ReplyModel}
 use Rattle.replica.specs.Steps.{Outcome}
-use Rattle.replica.specs.Transactions.{transaction}
 use Rattle.replica.specs.declared.reply.Reply.{Reply}
 use Rattle.replica.specs.declared.state.Replica.{Replica}
 
--- what a replica holds: of its book, the part that is filled
+-- what a replica holds
 abbrev pub view : Replica → ReplicaModel
 view r =
     record {
       place = r.place;
       rows = vec_items r.rows;
-      book = take r.known (vec_items r.book);
-      pending = map transaction (vec_items r.pending);
+      book = r.book.rows;
+      pending = r.pending;
     }
 
 -- what is fixed at it
@@ -28,8 +30,18 @@ config r =
       group = r.partition.group;
       replicas = r.tolerance.replicas;
       faults = r.tolerance.faults;
-      names = vec_len r.book;
+      names = r.book.size;
     }
+
+-- a replica holds this then, and what is fixed at it has stayed
+pub record Becomes (old new : Replica) (m : ReplicaModel) : Type 0 where
+  pub state : view new ≡ m
+  pub fixed : config new ≡ config old
+
+-- a new name, for which the book has space
+pub record HasSpace (C : Config) (m : ReplicaModel) (x : Name) : Type 0 where
+  pub free : length m.book < C.names
+  pub new : lookup by_bytes m.book x ≡ None
 
 -- what a reply says
 abbrev pub reply_model : Reply → ReplyModel

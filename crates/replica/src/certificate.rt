@@ -5,13 +5,12 @@ ghost use Rattle.locks.specs.LocalRows.{written_by_all};
 ghost use Rattle.replica.specs.Endings.{certificate_outcome, ended_named, judgement};
 ghost use Rattle.replica.specs.Steps.{judged, on_certificate, pending_at, rows_ended};
 ghost use Rattle.replica.specs.Transactions.{transaction};
-ghost use Rattle.replica.specs.Views.{config, view};
+ghost use Rattle.replica.specs.Views.{Becomes, config, view};
 ghost use Rattle.table.specs.Orders.{by_number};
 ghost use Rattle.table.specs.Rows.{rising};
 ghost use Rattle.wire.specs.Certificates.{certificate_model};
 
 use crate::book::{Delivered, meet_named};
-use crate::pending::{find_pending, release};
 use crate::state::{PendingPlace, Replica};
 use bodies::operation::Operation;
 use envelope::name::Name;
@@ -19,7 +18,6 @@ use locks::partition::{GroupOperations, Partition};
 use marks::scheme::MarkScheme;
 use quorums::genuine::are_genuine;
 use quorums::shape::is_shaped;
-use table::get;
 use table::row::Row;
 use votes::fault::CertificateFault;
 use votes::state::State;
@@ -61,12 +59,9 @@ impl Replica {
     fn pending_of(&self, name: &Name) -> Option<PendingPlace>
         ensures { option_map transaction result ≡ pending_at (config self.now) (view self.now) name.now }
     {
-        match get(&self.book[0..self.known], name) {
-            Some(State::Pending) => find_pending(&self.pending, name),
-            Some(State::Committed) => None,
-            Some(State::RolledBack) => None,
-            Some(State::Declined) => None,
-            None => None,
+        match self.book.get(name) {
+            Some(State::Pending) => self.pending.find(name),
+            _ => None,
         }
     }
 
@@ -99,12 +94,10 @@ impl Replica {
 
     // Ends the transaction of this name as the vote says.
     fn end(&mut self, name: &Name, vote: Vote)
-        ensures state { view self.new ≡ ended_named (config self.old) (view self.old) name.now vote }
-        ensures fixed { config self.new ≡ config self.old }
+        ensures { Becomes self.old self.new (ended_named (config self.old) (view self.old) name.now vote) }
     {
-        let known = self.known;
-        meet_named(&mut self.book, known, name, Delivered::certificate(vote));
-        if let Some(held) = release(&mut self.pending, name) {
+        meet_named(&mut self.book, name, Delivered::Certificate(vote));
+        if let Some(held) = self.pending.release(name) {
             let partition = self.partition;
             end_rows(&partition, &mut self.rows, vote, held.body.operations());
         }
@@ -116,9 +109,8 @@ impl Replica {
         scheme: &K,
         certificate: &Certificate,
     ) -> Result<(), CertificateFault>
-        ensures state { view self.new ≡ (on_certificate (config self.old) (K.genuine scheme.now) (view self.old) (certificate_model certificate.now)).0 }
+        ensures after { Becomes self.old self.new (on_certificate (config self.old) (K.genuine scheme.now) (view self.old) (certificate_model certificate.now)).0 }
         ensures outcome { certificate_outcome result ≡ (on_certificate (config self.old) (K.genuine scheme.now) (view self.old) (certificate_model certificate.now)).1 }
-        ensures fixed { config self.new ≡ config self.old }
     {
         let name = certificate.name();
         self.judge(scheme, certificate)?;

@@ -15,3 +15,5 @@ pub mod reply;
 pub mod state;
 pub mod step;
 mod take;
+#[cfg(test)]
+mod tests;

@@ -1,30 +1,21 @@
 // How a replica is made, and what it is asked.
-ghost use Rattle.std.specs.Prelude.{◌≡◌, ◌≤◌, true, ◌∷◌, ◌++◌, IfOk, vec_len};
+ghost use Rattle.std.specs.Prelude.{◌≡◌, true, IfOk};
 ghost use Rattle.locks.specs.LocalRows.{value_at};
 ghost use Rattle.replica.specs.Models.{fresh};
 ghost use Rattle.replica.specs.Views.{config, view};
 ghost use Rattle.table.specs.Orders.{by_bytes, by_number};
 ghost use Rattle.table.specs.Rows.{lookup, rising};
 
-use crate::state::{MOST_PENDING, Replica};
+use crate::pending::Pending;
+use crate::state::Replica;
 use envelope::name::Name;
 use locks::partition::Partition;
 use quorums::tolerance::Tolerance;
 use std::alloc::{AllocError, Global};
 use table::get;
+use table::owned::Table;
 use table::row::Row;
 use votes::state::State;
-
-// The rows, copied.
-fn copy_rows(heap: Global, rows: &[Row<u32, u64>]) -> Result<Vec<Row<u32, u64>>, AllocError>
-    ensures { IfOk result (λ v. v.items ≡ rows.now) }
-{
-    let mut copy = Vec::new(heap);
-    for row in rows {
-        copy.push(*row)?;
-    }
-    Ok(copy)
-}
 
 impl Replica {
     /// A replica that holds these rows, whose keys rise, and has taken nothing yet. Its book has space for so many names.
@@ -39,21 +30,17 @@ impl Replica {
         requires { rising by_number rows.now ≡ true }
         ensures { IfOk result (λ replica. (view replica ≡ fresh rows.now) × (config replica ≡ record { groups = partition.groups; group = partition.group; replicas = tolerance.replicas; faults = tolerance.faults; names = names })) }
     {
-        let rows = copy_rows(heap, rows)?;
         let free = Row {
             key: Name { bytes: [0; 32] },
             value: State::Declined,
         };
-        let book = vec![in heap; free; names]?;
-        let pending = Vec::with_capacity(heap, MOST_PENDING)?;
         Ok(Replica {
             partition,
             tolerance,
             place: 0,
-            rows,
-            book,
-            known: 0,
-            pending,
+            rows: Vec::from_slice(heap, rows)?,
+            book: Table::new(heap, free, names)?,
+            pending: Pending::new(heap)?,
         })
     }
 
@@ -68,7 +55,7 @@ impl Replica {
     pub fn state_of(&self, name: &Name) -> Option<State>
         ensures { result ≡ lookup by_bytes (view self.now).book name.now }
     {
-        get(&self.book[0..self.known], name)
+        self.book.get(name)
     }
 
     /// How many messages of its group's list it has taken.

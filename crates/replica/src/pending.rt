@@ -1,81 +1,83 @@
 // The pending places.
-ghost use Rattle.std.specs.Prelude.{◌≡◌, ◌≤◌, map, vec_len, vec_capacity};
+ghost use Rattle.std.specs.Prelude.{◌≡◌, ◌<◌, [], ◌∷◌, ◌++◌, length, IfOk, nat_le};
+ghost use Rattle.std.specs.List.{find};
 ghost use Rattle.std.specs.Option.{option_map};
-ghost use Rattle.replica.specs.Models.{is_conflicting, is_named, same_name};
-ghost use Rattle.replica.specs.Places.{is_place_of};
-ghost use Rattle.replica.specs.Searches.{first, place, without};
+ghost use Rattle.replica.specs.Models.{is_conflicting, is_named, most_pending};
+ghost use Rattle.replica.specs.Searches.{without};
 ghost use Rattle.replica.specs.Transactions.{transaction};
 
-use crate::state::PendingPlace;
-use bodies::operation::Operation;
+use crate::state::{MOST_PENDING, PendingPlace};
 use envelope::name::Name;
-use locks::partition::{GroupOperations, Partition};
-use std::cmp::Ordering;
+use locks::partition::GroupOperations;
+use std::alloc::{AllocError, Global};
+use std::marker::Model;
 
-// Whether the names are the same.
-fn is_same(left: &Name, right: &Name) -> bool
-    ensures { result ≡ same_name left.now right.now }
-{
-    match left.cmp(right) {
-        Ordering::Less => false,
-        Ordering::Equal => true,
-        Ordering::Greater => false,
-    }
+/// The pending transactions, in the order in which they were entered.
+#[derive(Drop)]
+pub struct Pending {
+    places: Vec<PendingPlace>,
 }
 
-// Where the transaction of this name is pending.
-fn place_of(places: &[PendingPlace], name: &Name) -> Option<usize>
-    ensures { result ≡ place (is_place_of name.now) places.now }
-{
-    for (i, held) in places.iter().enumerate() {
-        if is_same(name, &held.name) {
-            return Some(i);
-        }
-    }
-    None
+impl Model for Pending {
+    ghost use Rattle.std.specs.Prelude.{◌≤◌, List, map, vec_capacity, vec_len};
+    ghost use Rattle.replica.specs.Models.{Transaction};
+    ghost use Rattle.replica.specs.Transactions.{transaction};
+
+    ghost Value = { List Transaction };
+
+    ghost view = { λ p. map transaction p.places.items };
+
+    ghost invariant = { λ p. (vec_len p.places ≤ 32) × (32 ≤ vec_capacity p.places) };
 }
 
-/// The pending transaction of this name.
-pub fn find_pending(places: &[PendingPlace], name: &Name) -> Option<PendingPlace>
-    ensures { option_map transaction result ≡ first (is_named name.now) (map transaction places.now) }
-{
-    for held in places {
-        if is_same(name, &held.name) {
-            return Some(*held);
-        }
+impl Pending {
+    /// No transactions, and the memory for as many as there can be.
+    pub fn new(heap: Global) -> Result<Pending, AllocError>
+        ensures { IfOk result (λ pending. pending ≡ []) }
+    {
+        Ok(Pending {
+            places: Vec::with_capacity(heap, MOST_PENDING)?,
+        })
     }
-    None
-}
 
-/// Takes the pending transaction of this name out of its place.
-pub fn release(places: &mut Vec<PendingPlace>, name: &Name) -> Option<PendingPlace>
-    ensures value { option_map transaction result ≡ first (is_named name.now) (map transaction places.old.items) }
-    ensures items { map transaction places.new.items ≡ without (is_named name.now) (map transaction places.old.items) }
-    ensures len { vec_len places.new ≤ vec_len places.old }
-    ensures capacity { vec_capacity places.new ≡ vec_capacity places.old }
-{
-    match place_of(places, name) {
-        Some(at) => Some(places.remove(at)),
-        None => None,
+    /// Whether all places are taken.
+    pub fn is_full(&self) -> bool
+        ensures { result ≡ nat_le most_pending (length self.now) }
+    {
+        self.places.len() >= MOST_PENDING
     }
-}
 
-/// The earliest pending transaction that conflicts in the group with one of these operations.
-pub fn find_conflict(
-    partition: &Partition,
-    places: &[PendingPlace],
-    operations: &[Operation],
-) -> Option<PendingPlace>
-    ensures { option_map transaction result ≡ first (is_conflicting partition.now.groups partition.now.group operations.now) (map transaction places.now) }
-{
-    let transaction = GroupOperations {
-        partition: *partition,
-        operations,
-    };
-    for other in places {
-        if transaction.conflicts_with(other.body.operations()) {
-            return Some(*other);
-        }
+    /// The pending transaction of this name.
+    pub fn find(&self, name: &Name) -> Option<PendingPlace>
+        ensures { option_map transaction result ≡ find (is_named name.now) self.now }
+    {
+        self.places.iter().find(|held| *name == held.name).copied()
     }
-    None
+
+    /// The earliest pending transaction that conflicts in the group with the incoming one.
+    pub fn find_conflict(&self, incoming: &GroupOperations) -> Option<PendingPlace>
+        ensures { option_map transaction result ≡ find (is_conflicting incoming.now.partition.groups incoming.now.partition.group incoming.now.operations.now) self.now }
+    {
+        self.places
+            .iter()
+            .find(|held| incoming.conflicts_with(held.body.operations()))
+            .copied()
+    }
+
+    /// Takes the pending transaction of this name out of its place.
+    pub fn release(&mut self, name: &Name) -> Option<PendingPlace>
+        ensures value { option_map transaction result ≡ find (is_named name.now) self.old }
+        ensures after { self.new ≡ without (is_named name.now) self.old }
+    {
+        let at = self.places.iter().position(|held| *name == held.name)?;
+        Some(self.places.remove(at))
+    }
+
+    /// Gives a new transaction a place.
+    pub fn admit(&mut self, place: PendingPlace)
+        requires { length self.old < most_pending }
+        ensures { self.new ≡ self.old ++ transaction place ∷ [] }
+    {
+        self.places.push_reserved(place);
+    }
 }

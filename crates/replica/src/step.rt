@@ -2,7 +2,7 @@
 ghost use Rattle.std.specs.Prelude.{◌≡◌, ◌+◌, ◌^◌, ◌<◌};
 ghost use Rattle.replica.specs.Readings.{ReadsCertificate};
 ghost use Rattle.replica.specs.Steps.{acted, stepped};
-ghost use Rattle.replica.specs.Views.{config, outcome, view};
+ghost use Rattle.replica.specs.Views.{Becomes, config, outcome, view};
 ghost use Rattle.readings.specs.Messages.{parsed};
 
 use crate::reply::Reply;
@@ -30,9 +30,8 @@ impl Replica {
         scheme: &K,
         message: &[u8],
     ) -> Result<Option<Reply>, DeliveryFault>
-        ensures state { view self.new ≡ (acted (config self.old) (K.genuine scheme.now) (view self.old) (parsed K.SIZE message.now)).0 }
+        ensures after { Becomes self.old self.new (acted (config self.old) (K.genuine scheme.now) (view self.old) (parsed K.SIZE message.now)).0 }
         ensures outcome { outcome result ≡ (acted (config self.old) (K.genuine scheme.now) (view self.old) (parsed K.SIZE message.now)).1 }
-        ensures fixed { config self.new ≡ config self.old }
     {
         if let Ok(body) = read_body(message) {
             let name = name_of(message);

@@ -1,16 +1,12 @@
 // What a replica does with a body and with a proposal.
-ghost use Rattle.std.specs.Prelude.{◌≡◌, ◌<◌, false, length, Some, None, Ok, vec_len, nat_le};
-ghost use Rattle.replica.specs.Models.{most_pending};
+ghost use Rattle.std.specs.Prelude.{◌≡◌, Some, Ok};
 ghost use Rattle.replica.specs.Steps.{decided, late_objection, objection, on_body, on_proposal};
 ghost use Rattle.replica.specs.Transactions.{transaction};
-ghost use Rattle.replica.specs.Views.{config, outcome, reply_model, view};
-ghost use Rattle.table.specs.Orders.{by_bytes};
-ghost use Rattle.table.specs.Rows.{lookup};
+ghost use Rattle.replica.specs.Views.{Becomes, HasSpace, config, outcome, reply_model, view};
 
 use crate::book::Delivered;
-use crate::pending::find_conflict;
 use crate::reply::Reply;
-use crate::state::{MOST_PENDING, PendingPlace, Replica};
+use crate::state::{PendingPlace, Replica};
 use bodies::operation::Operation;
 use envelope::name::Name;
 use locks::partition::GroupOperations;
@@ -18,20 +14,11 @@ use votes::fault::DeliveryFault;
 use votes::ground::{Blocker, Ground};
 
 impl Replica {
-    // Whether all pending places are taken.
-    fn is_crowded(&self) -> bool
-        ensures value { result ≡ nat_le most_pending (length (view self.now).pending) }
-        ensures room { result ≡ false → vec_len self.now.pending < 32 }
-    {
-        self.pending.len() >= MOST_PENDING
-    }
-
     // The grounds that apply where no pending transaction is in the way.
     fn late_objection_to(&self, operations: &[Operation]) -> Option<Ground>
-        ensures ground { result ≡ late_objection (config self.now) (view self.now) operations.now }
-        ensures room { result ≡ None → vec_len self.now.pending < 32 }
+        ensures { result ≡ late_objection (config self.now) (view self.now) operations.now }
     {
-        if self.is_crowded() {
+        if self.pending.is_full() {
             return Some(Ground::NoPlace);
         }
         let transaction = GroupOperations {
@@ -47,8 +34,7 @@ impl Replica {
 
     // Why a new transaction is declined, if it is: the first ground that applies.
     fn objection_to(&self, operations: &[Operation]) -> Option<Ground>
-        ensures ground { result ≡ objection (config self.now) (view self.now) operations.now }
-        ensures room { result ≡ None → vec_len self.now.pending < 32 }
+        ensures { result ≡ objection (config self.now) (view self.now) operations.now }
     {
         let transaction = GroupOperations {
             partition: self.partition,
@@ -57,7 +43,7 @@ impl Replica {
         if transaction.lacks_row(&self.rows) {
             return Some(Ground::NoRow);
         }
-        if let Some(held) = find_conflict(&self.partition, &self.pending, operations) {
+        if let Some(held) = self.pending.find_conflict(&transaction) {
             let blocking = GroupOperations {
                 partition: self.partition,
                 operations: held.body.operations(),
@@ -72,10 +58,9 @@ impl Replica {
 
     // Declines a new transaction, or makes it pending.
     fn decide(&mut self, place: PendingPlace) -> Reply
-        requires { (self.old.known < vec_len self.old.book) × (lookup by_bytes (view self.old).book place.name ≡ None) }
-        ensures state { view self.new ≡ (decided (config self.old) (view self.old) (transaction place) (objection (config self.old) (view self.old) (transaction place).operations)).0 }
+        requires { HasSpace (config self.old) (view self.old) place.name }
+        ensures after { Becomes self.old self.new (decided (config self.old) (view self.old) (transaction place) (objection (config self.old) (view self.old) (transaction place).operations)).0 }
         ensures reply { Ok (Some (reply_model result)) ≡ (decided (config self.old) (view self.old) (transaction place) (objection (config self.old) (view self.old) (transaction place).operations)).1 }
-        ensures fixed { config self.new ≡ config self.old }
     {
         match self.objection_to(place.body.operations()) {
             Some(ground) => self.decline(&place.name, ground),
@@ -85,14 +70,13 @@ impl Replica {
 
     // Takes a proposal to abort.
     pub(crate) fn take_proposal(&mut self, name: &Name) -> Result<Option<Reply>, DeliveryFault>
-        ensures state { view self.new ≡ (on_proposal (config self.old) (view self.old) name.now).0 }
+        ensures after { Becomes self.old self.new (on_proposal (config self.old) (view self.old) name.now).0 }
         ensures outcome { outcome result ≡ (on_proposal (config self.old) (view self.old) name.now).1 }
-        ensures fixed { config self.new ≡ config self.old }
     {
         if let Some(reply) = self.answer_known(name, Delivered::Proposal) {
             return Ok(Some(reply));
         }
-        if self.known >= self.book.len() {
+        if self.book.is_full() {
             return Err(DeliveryFault::BookFull);
         }
         Ok(Some(self.decline(name, Ground::Proposed)))
@@ -100,9 +84,8 @@ impl Replica {
 
     // Takes a body, with its name.
     pub(crate) fn take_body(&mut self, place: PendingPlace) -> Result<Option<Reply>, DeliveryFault>
-        ensures state { view self.new ≡ (on_body (config self.old) (view self.old) (transaction place)).0 }
+        ensures after { Becomes self.old self.new (on_body (config self.old) (view self.old) (transaction place)).0 }
         ensures outcome { outcome result ≡ (on_body (config self.old) (view self.old) (transaction place)).1 }
-        ensures fixed { config self.new ≡ config self.old }
     {
         let transaction = GroupOperations {
             partition: self.partition,
@@ -114,7 +97,7 @@ impl Replica {
         if let Some(reply) = self.answer_known(&place.name, Delivered::Body) {
             return Ok(Some(reply));
         }
-        if self.known >= self.book.len() {
+        if self.book.is_full() {
             return Err(DeliveryFault::BookFull);
         }
         Ok(Some(self.decide(place)))

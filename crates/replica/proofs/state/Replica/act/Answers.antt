@@ -17,9 +17,8 @@ returns-in-Ok g c =
     let w = g.K.MarkScheme.SIZE in
     let e = parsed_body w bs _ _ (read_body bs (Ok c.in-Ok.body) c.in-Ok.ensures) c.name_of-name.ensures in
     record {
-      state = state_on C is m w bs _ e _ c.take_body.ensures.state;
+      after = record { state = state_on C is m w bs _ e _ c.take_body.ensures.after.state; fixed = c.take_body.ensures.after.fixed };
       outcome = outcome_on C is m w bs _ e _ c.take_body.ensures.outcome;
-      fixed = c.take_body.ensures.fixed;
     }
 
 pub returns-in-Ok-read_proposal : goal.returns-in-Ok-read_proposal
@@ -32,9 +31,8 @@ returns-in-Ok-read_proposal g c =
     let none = read_body bs (Err c.in_default.field-0) c.in_default.ensures in
     let e = parsed_proposal w bs none _ (read_proposal bs (Ok c.in-Ok-read_proposal.name) c.in-Ok-read_proposal.ensures) in
     record {
-      state = state_on C is m w bs _ e _ c.take_proposal.ensures.state;
+      after = record { state = state_on C is m w bs _ e _ c.take_proposal.ensures.after.state; fixed = c.take_proposal.ensures.after.fixed };
       outcome = outcome_on C is m w bs _ e _ c.take_proposal.ensures.outcome;
-      fixed = c.take_proposal.ensures.fixed;
     }
 
 pub returns-in_err-certificate : goal.returns-in_err-certificate
@@ -50,11 +48,10 @@ returns-in_err-certificate g c =
     let e = parsed_other w bs none none' (wide ∙ c.in_err-certificate.ensures.0) in
     let p = err_from_is_err_and c.from_residual.result c.from_residual.ensures.1 in
     record {
-      state = state_on C is m w bs _ e _ refl;
+      after = record { state = state_on C is m w bs _ e _ refl; fixed = refl };
       outcome =
           outcome_on C is m w bs _ e _
           (ap outcome p.1 ∙ ap Err (p.2 ∙ ap Certificate c.in_err-certificate.ensures.1));
-      fixed = refl;
     }
 
 pub returns-in_err-take_certificate : goal.returns-in_err-take_certificate
@@ -70,12 +67,11 @@ returns-in_err-take_certificate g c =
     let p = err_from_is_err_and c.from_residual-in_err-take_certificate.result
     c.from_residual-in_err-take_certificate.ensures.1 in
     record {
-      state = state_on C is m w bs _ e _ c.take_certificate.ensures.state;
+      after = record { state = state_on C is m w bs _ e _ c.take_certificate.ensures.after.state; fixed = c.take_certificate.ensures.after.fixed };
       outcome =
           outcome_on C is m w bs _ e _
           (ap outcome p.1 ∙ ap Err p.2
           ∙ ap certificate_outcome (sym c.in_err-take_certificate.was) ∙ c.take_certificate.ensures.outcome);
-      fixed = c.take_certificate.ensures.fixed;
     }
 
 pub returns : goal.returns
@@ -89,9 +85,8 @@ returns g c =
     let wide = ap (λ n. certificate_of n bs) (sym c.SIZE.ensures) in
     let e = parsed_certificate w bs none _ (wide ∙ c.in_ok-certificate.ensures) in
     record {
-      state = state_on C is m w bs _ e _ c.take_certificate.ensures.state;
+      after = record { state = state_on C is m w bs _ e _ c.take_certificate.ensures.after.state; fixed = c.take_certificate.ensures.after.fixed };
       outcome =
           outcome_on C is m w bs _ e _
           (ap certificate_outcome (sym c.in_ok-take_certificate.was) ∙ c.take_certificate.ensures.outcome);
-      fixed = c.take_certificate.ensures.fixed;
     }

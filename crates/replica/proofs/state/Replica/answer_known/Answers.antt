@@ -1,5 +1,8 @@
-use Rattle.std.proofs.Common.{ℕ, Some, ap, ◌∙◌}
+use Rattle.std.proofs.Common.{ℕ, Some, sym, ap, ◌∙◌}
 use Rattle.std.specs.Option.{option_map}
+use Rattle.envelope.specs.declared.name.Name.{Name}
+use Rattle.table.specs.Tables.{TableModel, with_rows}
+use Rattle.votes.specs.declared.state.State.{State}
 use Rattle.replica.specs.Models.{Book, Config, ReplicaModel}
 use Rattle.replica.specs.Steps.{recalled}
 use Rattle.replica.specs.Views.{config, view}
@@ -13,16 +16,20 @@ with_book m b = record { place = m.place; rows = m.rows; book = b; pending = m.p
 with_size : Config → ℕ → Config
 with_size C n = record { groups = C.groups; group = C.group; replicas = C.replicas; faults = C.faults; names = n }
 
-pub returns-in-Some : goal.returns-in-Some
+pub returns : goal.returns
 unfolding with_book with_size
-returns-in-Some c =
+returns c =
     let C = config c.args.self.now in
     let m = view c.args.self.now in
-    let met = c.in-Some.ensures in
+    let met = c.meet_named.ensures in
+    let same = met.after ∙ ap (with_rows c.args.self.now.book) (question_keeps m.book c.args.name.now c.args.delivered c.requires) in
     record {
       reply =
           ap Some c.recall.ensures
-          ∙ ap (option_map (recalled C m c.args.name.now)) (met.state ∙ question_state _ c.args.delivered c.requires);
-      state = ap (with_book m) (met.after ∙ question_keeps _ _ c.args.delivered c.requires);
-      fixed = ap (with_size C) met.len;
+          ∙ ap (option_map (recalled C m c.args.name.now))
+          (sym c.in_ok-state.was ∙ met.state ∙ question_state _ c.args.delivered c.requires);
+      after = record {
+        state = ap (λ (b : TableModel Name State). with_book m b.rows) same;
+        fixed = ap (λ (b : TableModel Name State). with_size C b.size) same;
+      };
     }

@@ -1,10 +1,10 @@
 -- The rows after a change: which one it is, what is found, and that the keys stay.
-use Rattle.std.proofs.Common.{◌≡◌, ℕ, suc, ◌+◌, Bool, true, false, cond, ◌&&◌, List, [], ◌∷◌, length, get_or, set, Some, None, Ok, Err, Option, Result, Ordering, Less, Equal, Greater, sym, refl, ap, ◌∙◌, ap₂, true≢false, arith}
+use Rattle.std.proofs.Common.{◌≡◌, ℕ, Bool, true, false, cond, ◌&&◌, List, [], ◌∷◌, length, Some, None, Option, Ordering, sym, refl, ap, ◌∙◌, ap₂, true≢false, arith}
 use Rattle.std.specs.Option.{option_map}
 use Rattle.std.specs.Ordering.{is_eq}
 use Rattle.std.proofs.lemmas.List.{length-map}
 use Rattle.table.specs.Orders.{Laws}
-use Rattle.table.specs.Rows.{changed, further, leads, lookup, pick, position, rising}
+use Rattle.table.specs.Rows.{changed, leads, lookup, rising}
 use Rattle.table.specs.TableLaws.{keys_of}
 use Rattle.table.specs.declared.row.Row.{Row}
 use Rattle.table.proofs.Comparisons.{tied}
@@ -14,25 +14,6 @@ abbrev pub with_value : {K V : Type 0} → Row K V → V → Row K V
 with_value r v = record { key = r.key; value = v }
 
 module _ {K V : Type 0} (cmp : K → K → Ordering) where
-  -- the value goes to the place that a search answers
-  pub change_is : (rs : List (Row K V)) (k : K) (v : V) (i : ℕ) (d : Row K V) → Ok i ≡ position cmp rs k
-      → set rs i (with_value (get_or rs i d) v) ≡ changed cmp rs k v
-  change_is [] k v i d e = refl
-  change_is (r ∷ rs) k v i d e = at (cmp k r.key) (position cmp rs k) (λ j. change_is rs k v j d) refl e where
-    at : (o : Ordering) (p : Result ℕ ℕ)
-        → ((j : ℕ) → Ok j ≡ position cmp rs k → set rs j (with_value (get_or rs j d) v) ≡ changed cmp rs k v)
-        → p ≡ position cmp rs k → Ok i ≡ pick o (Err 0) (Ok 0) (further p)
-        → set (r ∷ rs) i (with_value (get_or (r ∷ rs) i d) v) ≡ cond (is_eq o) (with_value r v ∷ rs) (r ∷ changed cmp rs k v)
-    at Less p next is h = absurd (let z : ◌≡◌ {A = ℕ} 0 1 = cc in omega arith)
-    at Equal p next is h =
-        let z : i ≡ 0 = cc in
-        ap (λ n. set (r ∷ rs) n (with_value (get_or (r ∷ rs) n d) v)) z
-    at Greater (Err j) next is h = absurd (let z : ◌≡◌ {A = ℕ} 0 1 = cc in omega arith)
-    at Greater (Ok j) next is h =
-        let z : j + 1 ≡ i = cc in
-        let s : i ≡ suc j = omega arith in
-        ap (λ n. set (r ∷ rs) n (with_value (get_or (r ∷ rs) n d) v)) s ∙ ap (λ l. r ∷ l) (next j is)
-
   -- without a row of the key all stays
   pub changed_absent : (rs : List (Row K V)) (k : K) (v : V) → None ≡ lookup cmp rs k → rs ≡ changed cmp rs k v
   changed_absent [] k v e = refl

@@ -5,12 +5,17 @@ use Rattle.table.specs.Rows.{changed, further, leads, pick, position, rising, va
 use Rattle.table.specs.declared.row.Row.{Row}
 
 module _ {K V : Type 0} where
-  -- the row there is r
-  pub valued_is : (rs : List (Row K V)) (at : ℕ) (r : Row K V) (v : V) → at < length rs → r ≡ get_or rs at r
+  pub valued_is : (rs : List (Row K V)) (at : ℕ) (d : Row K V) (v : V) → at < length rs
+      → set rs at (record { key = (get_or rs at d).key; value = v }) ≡ valued rs at v
+  valued_is [] at d v low = absurd (omega arith)
+  valued_is (r ∷ rs) zero d v low = refl
+  valued_is (r ∷ rs) (suc at) d v low = ap (λ (l : List (Row K V)). r ∷ l) (valued_is rs at d v (omega arith))
+
+  -- the same, of the row r that was read there
+  pub valued_read : (rs : List (Row K V)) (at : ℕ) (r : Row K V) (v : V) → at < length rs → r ≡ get_or rs at r
       → set rs at (record { key = r.key; value = v }) ≡ valued rs at v
-  valued_is [] at r v low is = absurd (omega arith)
-  valued_is (x ∷ rs) zero r v low is = ap (λ (y : Row K V). record { key = y.key; value = v } ∷ rs) is
-  valued_is (x ∷ rs) (suc at) r v low is = ap (λ (l : List (Row K V)). x ∷ l) (valued_is rs at r v (omega arith) is)
+  valued_read rs at r v low is =
+      ap (λ (x : Row K V). set rs at (record { key = x.key; value = v })) is ∙ valued_is rs at r v low
 
   pub take_valued : (n : ℕ) (rs : List (Row K V)) (at : ℕ) (v : V) → take n (valued rs at v) ≡ valued (take n rs) at v
   take_valued zero rs at v = refl

@@ -1,7 +1,8 @@
-use Rattle.std.proofs.Common.{is_some, ap, ◌∙◌}
+use Rattle.std.proofs.Common.{ℕ, is_some, ap, ◌∙◌}
 use Rattle.table.specs.Rows.{rising}
-use Rattle.table.proofs.Changed.{change_is, changed_absent, rising_changed}
+use Rattle.table.proofs.Changed.{changed_absent, rising_changed}
 use Rattle.table.proofs.Lookups.{lookup_absent, lookup_present}
+use Rattle.table.proofs.Valued.{valued_changed, valued_is}
 use Rattle.table.proofs.change.Goals as goal
 
 pub returns-in-Ok : goal.returns-in-Ok
@@ -9,9 +10,11 @@ returns-in-Ok g c =
     let cmp = g.K.Ord.cmp in
     let rows = c.args.rows.now in
     let key = c.args.key.now in
-    let at = c.in-Ok.at in
+    let at : ℕ = c.in-Ok.at in
     let row = c.index-rows-at.result in
-    let after = change_is cmp rows key c.args.value at row c.in-Ok.ensures.place in
+    let after =
+    valued_is rows at row c.args.value c.in-Ok.ensures.bound
+    ∙ valued_changed cmp rows key at c.args.value c.in-Ok.ensures.place in
     record {
       answer = ap is_some (lookup_present cmp rows key at row c.in-Ok.ensures.place);
       after = after;

@@ -6,7 +6,7 @@ use Rattle.std.proofs.lemmas.Option.{slice_get_read}
 use Rattle.table.specs.Rows.{rising, valued}
 use Rattle.table.specs.Tables.{TableModel, with_rows}
 use Rattle.table.specs.declared.row.Row.{Row}
-use Rattle.table.proofs.Valued.{rising_valued, take_valued, valued_is}
+use Rattle.table.proofs.Valued.{rising_valued, take_valued, valued_read}
 use Rattle.table.proofs.owned.Table.value_mut.Goals as goal
 
 pub invariant_of-self-lent : goal.invariant_of-self-lent
@@ -19,7 +19,7 @@ invariant_of-self-lent g c w =
     let count = length-take-le filled rows (omega (arith, c.self.invariant.0, c.self.inside.rows.ok.0)) in
     let low : at < length rows = omega (arith, c.self.invariant.0, c.self.inside.rows.ok.0) in (
       c.self.invariant.0,
-      ap (λ (l : List (Row g.row.K.Denot g.row.V.Denot)). rising cmp (take filled l)) (valued_is rows at c.index_mut-row.result.now w low c.index_mut-row.ensures.value)
+      ap (λ (l : List (Row g.row.K.Denot g.row.V.Denot)). rising cmp (take filled l)) (valued_read rows at c.index_mut-row.result.now w low c.index_mut-row.ensures.value)
           ∙ ap (rising cmp) (take_valued filled rows at w) ∙ rising_valued cmp (take filled rows) at w ∙ c.self.invariant.1,
     )
 
@@ -37,7 +37,7 @@ returns g c =
       (
         refl,
         λ w.
-            ap (with_rows seen) (ap (take filled) (valued_is rows at row w low c.index_mut-row.ensures.value) ∙ take_valued filled rows at w)
+            ap (with_rows seen) (ap (take filled) (valued_read rows at row w low c.index_mut-row.ensures.value) ∙ take_valued filled rows at w)
             ∙ ap (λ (t : TableModel g.row.K.Denot g.row.V.Denot). with_rows t (valued t.rows at w)) c.self.view_is,
       ),
       record {

@@ -9,7 +9,7 @@ use Rattle.locks.proofs.partition.GroupOperations.read_values.Goals.{then-is_loc
 pub loop-operation-preserved : goal.loop-operation-preserved
 loop-operation-preserved c =
     let more = reads_more c.args.self.now.partition.groups c.args.self.now.partition.group c.args.rows.now c.args.self.now.operations.now
-        c.loop-operation.operation-index (Read 0) in
+    c.loop-operation.operation-index (Read 0) in
     elim c.if-is_local.branch [
       | then-is_local+then-is_read w ↦
           let is : listed c.if-is_local.values ≡ listed c.loop-operation.values ++ (w.unwrap_or.result ∷ []) = cc in (

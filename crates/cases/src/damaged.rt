@@ -75,6 +75,7 @@ fn damage_byte(width: usize, message: &mut [u8], at: usize) -> Result<bool, Fail
 fn damage(width: usize, message: &mut [u8]) -> Result<(), Fail> {
     check(readings(width, message)? == 1, "read as it stands")?;
     let mut read = 0usize;
+    // By the place of the byte, since the whole message is read after each change.
     for at in 0..message.len() {
         if damage_byte(width, message, at)? {
             read = read.wrapping_add(1);

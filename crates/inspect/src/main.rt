@@ -130,6 +130,7 @@ fn main(rt: HostRuntime) -> io::Result<()> {
     rt.stdin().read_to_end(&mut input)?;
     let mut rest = input.as_slice();
     let mut number = 0u64;
+    // A loop: the library's `split` would find one more line, an empty one, after the last newline.
     while !rest.is_empty() {
         let (line, after) = split_line(rest);
         number = number.saturating_add(1);

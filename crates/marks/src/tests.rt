@@ -19,8 +19,8 @@ const STATEMENT: Statement = Statement {
 #[test]
 fn a_seal_is_given_once_for_each_of_the_allowance(rt: HostRuntime) {
     let mut key = [0; 32];
-    for i in 0..32u8 {
-        key[i as usize] = i;
+    for (byte, number) in key.iter_mut().zip(0..32) {
+        *byte = number;
     }
     let holder = Holder { key, allowance: 1 };
     let mut seals = Seals {

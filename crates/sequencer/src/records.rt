@@ -18,6 +18,7 @@ use std::alloc::{AllocError, Global};
 #[derive(Drop)]
 pub struct Records<const LEAD: usize> {
     bytes: Vec<u8>,
+    // How many bytes the buffer may have; the memory that is reserved for it may be more.
     size: usize,
     indexes: Vec<Vec<usize>>,
     ghost lead: { LEAD ≤ 1 },

@@ -1,17 +1,15 @@
 // What a transaction asks of the rows of its group, reads in them and writes into them.
-ghost use Rattle.std.specs.Prelude.{◌≡◌, ◌≤◌, true, not, ◌&&◌, length, is_some};
+ghost use Rattle.std.specs.Prelude.{◌≡◌, ◌≤◌, not, ◌&&◌, length, is_some};
 ghost use Rattle.bodies.specs.Operations.{is_read, key_of};
 ghost use Rattle.locks.specs.Groups.{is_local};
 ghost use Rattle.locks.specs.LocalRows.{differs, is_unequal, lacks_row, read_values, value_at, written_by, written_by_all};
-ghost use Rattle.table.specs.Orders.{by_number};
-ghost use Rattle.table.specs.Rows.{rising};
+ghost use Rattle.table.specs.Tables.{with_rows};
 ghost use Rattle.lists.specs.Lists.{listed};
 ghost use Rattle.votes.specs.Values.{most_values};
 
 use crate::partition::{GroupOperations, Partition};
 use bodies::operation::Operation;
-use table::row::Row;
-use table::{change, get};
+use table::owned::Table;
 use votes::values::Values;
 
 // Whether the operation compares with another value than this.
@@ -26,46 +24,42 @@ fn is_different(row: Option<u64>, operation: &Operation) -> bool
 
 impl GroupOperations<'_> {
     /// Whether a key of the group that the operations name has no row.
-    pub fn lacks_row(&self, rows: &[Row<u32, u64>]) -> bool
-        requires { rising by_number rows.now ≡ true }
-        ensures { result ≡ lacks_row self.now.partition.groups self.now.partition.group rows.now self.now.operations.now }
+    pub fn lacks_row(&self, rows: &Table<u32, u64>) -> bool
+        ensures { result ≡ lacks_row self.now.partition.groups self.now.partition.group rows.now.rows self.now.operations.now }
     {
         self.operations.iter().any(|operation| {
-            self.partition.is_local(operation) && get(rows, &operation.key()).is_none()
+            self.partition.is_local(operation) && rows.get(&operation.key()).is_none()
         })
     }
 
     /// Whether a compare at a key of the group is not equal.
-    pub fn has_unequal(&self, rows: &[Row<u32, u64>]) -> bool
-        requires { rising by_number rows.now ≡ true }
-        ensures { result ≡ is_unequal self.now.partition.groups self.now.partition.group rows.now self.now.operations.now }
+    pub fn has_unequal(&self, rows: &Table<u32, u64>) -> bool
+        ensures { result ≡ is_unequal self.now.partition.groups self.now.partition.group rows.now.rows self.now.operations.now }
     {
         self.operations.iter().any(|operation| {
             self.partition.is_local(operation)
-                && is_different(get(rows, &operation.key()), operation)
+                && is_different(rows.get(&operation.key()), operation)
         })
     }
 
     /// The values of the reads at keys of the group, in the order of the operations.
-    pub fn read_values(&self, rows: &[Row<u32, u64>]) -> Values
-        requires { (rising by_number rows.now ≡ true) × (length self.now.operations.now ≤ most_values) }
-        ensures { listed result ≡ read_values self.now.partition.groups self.now.partition.group rows.now self.now.operations.now }
+    pub fn read_values(&self, rows: &Table<u32, u64>) -> Values
+        requires { length self.now.operations.now ≤ most_values }
+        ensures { listed result ≡ read_values self.now.partition.groups self.now.partition.group rows.now.rows self.now.operations.now }
     {
         // A loop, since a list with no heap cannot be collected into.
         let mut values = Values::new(0);
         for operation in self.operations {
             if self.partition.is_local(operation) && operation.is_read() {
-                values.push(get(rows, &operation.key()).unwrap_or(0));
+                values.push(rows.get(&operation.key()).unwrap_or(0));
             }
         }
         values
     }
 
     /// Does the writes at keys of the group, in the order of the operations.
-    pub fn write_values(&self, rows: &mut [Row<u32, u64>])
-        requires { rising by_number rows.old ≡ true }
-        ensures after { rows.new ≡ written_by_all self.now.partition.groups self.now.partition.group self.now.operations.now rows.old }
-        ensures rises { rising by_number rows.new ≡ true }
+    pub fn write_values(&self, rows: &mut Table<u32, u64>)
+        ensures { rows.new ≡ with_rows rows.old (written_by_all self.now.partition.groups self.now.partition.group self.now.operations.now rows.old.rows) }
     {
         for operation in self.operations {
             write_one(&self.partition, rows, operation);
@@ -74,14 +68,12 @@ impl GroupOperations<'_> {
 }
 
 // Does the operation, if it is a write at a key of the group.
-fn write_one(partition: &Partition, rows: &mut [Row<u32, u64>], operation: &Operation)
-    requires { rising by_number rows.old ≡ true }
-    ensures after { rows.new ≡ written_by partition.now.groups partition.now.group operation.now rows.old }
-    ensures rises { rising by_number rows.new ≡ true }
+fn write_one(partition: &Partition, rows: &mut Table<u32, u64>, operation: &Operation)
+    ensures { rows.new ≡ with_rows rows.old (written_by partition.now.groups partition.now.group operation.now rows.old.rows) }
 {
     match *operation {
         Operation::Write { key, value } if partition.is_local(operation) => {
-            change(rows, &key, value);
+            rows.change(&key, value);
         }
         _ => {}
     }

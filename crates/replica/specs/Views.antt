@@ -1,5 +1,5 @@
 -- What the code's replica holds, and what its replies say.
-use Rattle.std.specs.Prelude.{◌≡◌, ◌<◌, length, None, Ok, Err, vec_items, Option, Result}
+use Rattle.std.specs.Prelude.{◌≡◌, ◌<◌, length, None, Ok, Err, Option, Result}
 use Rattle.std.specs.Option.{option_map}
 use Rattle.lists.specs.Lists.{listed}
 use Rattle.envelope.specs.declared.name.Name.{Name}
@@ -17,7 +17,7 @@ abbrev pub view : Replica → ReplicaModel
 view r =
     record {
       place = r.place;
-      rows = vec_items r.rows;
+      rows = r.rows.rows;
       book = r.book.rows;
       pending = r.pending;
     }

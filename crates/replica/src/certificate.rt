@@ -1,55 +1,32 @@
 // What a replica does with a certificate.
-ghost use Rattle.std.specs.Prelude.{◌≡◌, true};
+ghost use Rattle.std.specs.Prelude.{◌≡◌};
 ghost use Rattle.std.specs.Option.{option_map};
-ghost use Rattle.locks.specs.LocalRows.{written_by_all};
 ghost use Rattle.replica.specs.Endings.{certificate_outcome, ended_named, judgement};
 ghost use Rattle.replica.specs.Steps.{judged, on_certificate, pending_at, rows_ended};
 ghost use Rattle.replica.specs.Transactions.{transaction};
 ghost use Rattle.replica.specs.Views.{Becomes, config, view};
-ghost use Rattle.table.specs.Orders.{by_number};
-ghost use Rattle.table.specs.Rows.{rising};
+ghost use Rattle.table.specs.Tables.{with_rows};
 ghost use Rattle.wire.specs.Certificates.{certificate_model};
 
 use crate::book::{Delivered, meet_named};
 use crate::state::{PendingPlace, Replica};
-use bodies::operation::Operation;
 use envelope::name::Name;
-use locks::partition::{GroupOperations, Partition};
+use locks::partition::GroupOperations;
 use marks::scheme::MarkScheme;
 use quorums::genuine::are_genuine;
 use quorums::shape::is_shaped;
-use table::row::Row;
+use table::owned::Table;
 use votes::fault::CertificateFault;
 use votes::state::State;
 use votes::vote::Vote;
 use wire::certificate::Certificate;
 
-// Does the writes of these operations at keys of the group.
-fn write_rows(partition: &Partition, rows: &mut Vec<Row<u32, u64>>, operations: &[Operation])
-    requires { rising by_number rows.old.items ≡ true }
-    ensures after { rows.new.items ≡ written_by_all partition.now.groups partition.now.group operations.now rows.old.items }
-    ensures rises { rising by_number rows.new.items ≡ true }
-{
-    let transaction = GroupOperations {
-        partition: *partition,
-        operations,
-    };
-    transaction.write_values(rows);
-}
-
 // Does what the end of a transaction does to rows: a commit writes them.
-fn end_rows(
-    partition: &Partition,
-    rows: &mut Vec<Row<u32, u64>>,
-    vote: Vote,
-    operations: &[Operation],
-)
-    requires { rising by_number rows.old.items ≡ true }
-    ensures after { rows.new.items ≡ rows_ended partition.now.groups partition.now.group vote operations.now rows.old.items }
-    ensures rises { rising by_number rows.new.items ≡ true }
+fn end_rows(transaction: &GroupOperations, rows: &mut Table<u32, u64>, vote: Vote)
+    ensures { rows.new ≡ with_rows rows.old (rows_ended transaction.now.partition.groups transaction.now.partition.group vote transaction.now.operations.now rows.old.rows) }
 {
     match vote {
-        Vote::Commit => write_rows(partition, rows, operations),
+        Vote::Commit => transaction.write_values(rows),
         Vote::Abort => {}
     }
 }
@@ -98,8 +75,11 @@ impl Replica {
     {
         meet_named(&mut self.book, name, Delivered::Certificate(vote));
         if let Some(held) = self.pending.release(name) {
-            let partition = self.partition;
-            end_rows(&partition, &mut self.rows, vote, held.body.operations());
+            let transaction = GroupOperations {
+                partition: self.partition,
+                operations: held.body.operations(),
+            };
+            end_rows(&transaction, &mut self.rows, vote);
         }
     }
 

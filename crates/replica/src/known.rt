@@ -48,16 +48,13 @@ impl Replica {
     fn reads_again(&self, name: &Name) -> Values
         ensures { listed result ≡ reads_again (config self.now) (view self.now) name.now }
     {
-        match self.pending.find(name) {
-            Some(held) => {
-                let transaction = GroupOperations {
-                    partition: self.partition,
-                    operations: held.body.operations(),
-                };
-                transaction.read_values(&self.rows)
-            }
-            None => Values::new(0),
-        }
+        self.pending.find(name).map_or(Values::new(0), |held| {
+            let transaction = GroupOperations {
+                partition: self.partition,
+                operations: held.body.operations(),
+            };
+            transaction.read_values(&self.rows)
+        })
     }
 
     // The reads that a known name of this state is answered with.

@@ -12,7 +12,6 @@ use envelope::name::Name;
 use locks::partition::Partition;
 use quorums::tolerance::Tolerance;
 use std::alloc::{AllocError, Global};
-use table::get;
 use table::owned::Table;
 use table::row::Row;
 use votes::state::State;
@@ -38,7 +37,7 @@ impl Replica {
             partition,
             tolerance,
             place: 0,
-            rows: Vec::from_slice(heap, rows)?,
+            rows: Table::from_rows(heap, rows)?,
             book: Table::new(heap, free, names)?,
             pending: Pending::new(heap)?,
         })
@@ -48,7 +47,7 @@ impl Replica {
     pub fn value(&self, key: u32) -> Option<u64>
         ensures { result ≡ value_at (view self.now).rows key }
     {
-        get(&self.rows, &key)
+        self.rows.get(&key)
     }
 
     /// The state of a name, if the book has it.

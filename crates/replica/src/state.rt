@@ -1,15 +1,10 @@
 // What a replica holds.
-ghost use Rattle.std.specs.Prelude.{◌≡◌, true};
-ghost use Rattle.table.specs.Orders.{by_number};
-ghost use Rattle.table.specs.Rows.{rising};
-
 use crate::pending::Pending;
 use bodies::body::Body;
 use envelope::name::Name;
 use locks::partition::Partition;
 use quorums::tolerance::Tolerance;
 use table::owned::Table;
-use table::row::Row;
 use votes::state::State;
 
 /// The most transactions that are pending at a replica.
@@ -30,9 +25,8 @@ pub struct Replica {
     pub(crate) tolerance: Tolerance,
     // How many messages of its group's list it has taken.
     pub(crate) place: u64,
-    pub(crate) rows: Vec<Row<u32, u64>>,
+    pub(crate) rows: Table<u32, u64>,
     // The names that it knows, each with its state.
     pub(crate) book: Table<Name, State>,
     pub(crate) pending: Pending,
-    ghost sorted: { rising by_number rows.items ≡ true },
 }

@@ -25,11 +25,9 @@ impl Replica {
             partition: self.partition,
             operations,
         };
-        if transaction.has_unequal(&self.rows) {
-            Some(Ground::Unequal)
-        } else {
-            None
-        }
+        transaction
+            .has_unequal(&self.rows)
+            .then_some(Ground::Unequal)
     }
 
     // Why a new transaction is declined, if it is: the first ground that applies.

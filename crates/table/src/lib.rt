@@ -22,6 +22,8 @@ pub mod row;
 #[cfg(test)]
 mod tests;
 
+// The calls over a caller's slice stay: the project wants the table over rows that the caller owns. `Table` calls them.
+
 /// Where the key stands, or where it would go.
 pub fn find<K: Key, V>(rows: &[Row<K, V>], key: &K) -> Result<usize, usize>
     requires { rising K.cmp rows.now ≡ true }

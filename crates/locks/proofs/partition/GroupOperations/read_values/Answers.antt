@@ -8,7 +8,7 @@ use Rattle.locks.proofs.partition.GroupOperations.read_values.Goals.{then-is_loc
 
 pub loop-operation-preserved : goal.loop-operation-preserved
 loop-operation-preserved c =
-    let more = reads_more c.args.self.now.partition.groups c.args.self.now.partition.group c.args.rows.now c.args.self.now.operations.now
+    let more = reads_more c.args.self.now.partition.groups c.args.self.now.partition.group c.args.rows.now.rows c.args.self.now.operations.now
     c.loop-operation.operation-index (Read 0) in
     elim c.if-is_local.branch [
       | then-is_local+then-is_read w ↦

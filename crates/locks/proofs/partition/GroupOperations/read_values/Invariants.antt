@@ -7,4 +7,4 @@ use Rattle.locks.proofs.partition.GroupOperations.read_values.Given as goal
 abbrev pub invariant-loop-operation : goal.invariant-loop-operation
 invariant-loop-operation l =
     (length (listed l.values) ≤ l.operation-index) ×
-    (listed l.values ≡ read_values l.self.partition.groups l.self.partition.group l.rows (take l.operation-index l.self.operations.now))
+    (listed l.values ≡ read_values l.self.partition.groups l.self.partition.group l.rows.rows (take l.operation-index l.self.operations.now))

@@ -109,6 +109,7 @@ fn sha256_of_repeated_letters(rt: HostRuntime) -> Result<(), Fail> {
     Ok(())
 }
 
+// Test cases 1 to 5 of RFC 4231, which has the first 16 bytes of the fifth, and a key that needs no filling.
 #[test]
 fn hmac_of_published_keys(rt: HostRuntime) {
     let counted =

@@ -8,14 +8,14 @@ use std::fmt;
 #[derive(Clone, Copy, Debug, PartialEq, Eq)]
 pub enum ReadFault {
     /// The bytes are no message of the kind, or the parts make none.
-    Malformed,
+    Malformed = 10,
 }
 
 /// What a writer refuses.
 #[derive(Clone, Copy, Debug, PartialEq, Eq)]
 pub enum WriteFault {
     /// The output buffer is too short.
-    ShortBuffer,
+    ShortBuffer = 8,
 }
 
 impl From<ReadFault> for u8 {
@@ -23,9 +23,7 @@ impl From<ReadFault> for u8 {
     ghost from_gives = { λ fault number. number ≡ read_number fault };
 
     fn from(fault: ReadFault) -> u8 {
-        match fault {
-            ReadFault::Malformed => 10,
-        }
+        fault as u8
     }
 }
 
@@ -34,9 +32,7 @@ impl From<WriteFault> for u8 {
     ghost from_gives = { λ fault number. number ≡ write_number fault };
 
     fn from(fault: WriteFault) -> u8 {
-        match fault {
-            WriteFault::ShortBuffer => 8,
-        }
+        fault as u8
     }
 }
 

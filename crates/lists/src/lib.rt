@@ -16,6 +16,7 @@ pub struct BoundedList<T, const N: usize> {
     ghost within: { count ≤ N },
 }
 
+// By hand: a derive of `Clone` is refused on a generic struct with a ghost field.
 impl<T: Copy, const N: usize> Copy for BoundedList<T, N> {}
 
 impl<T: Copy, const N: usize> Clone for BoundedList<T, N> {

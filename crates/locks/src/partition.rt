@@ -16,6 +16,7 @@ pub struct Partition {
 }
 
 /// The operations of a transaction, with the group that they are seen from.
+// Made in place: behind a constructor, whose result only its clause tells, proofs of the replica did not close.
 #[derive(Clone, Copy)]
 pub struct GroupOperations<'a> {
     pub partition: Partition,

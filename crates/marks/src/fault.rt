@@ -6,9 +6,9 @@ ghost use Rattle.marks.specs.Faults.{give_number};
 #[derive(Clone, Copy, Debug, PartialEq, Eq)]
 pub enum GiveFault {
     /// The output buffer is too short.
-    ShortBuffer,
+    ShortBuffer = 8,
     /// The replica gets no more marks.
-    Spent,
+    Spent = 16,
 }
 
 impl From<GiveFault> for u8 {
@@ -16,9 +16,6 @@ impl From<GiveFault> for u8 {
     ghost from_gives = { λ fault number. number ≡ give_number fault };
 
     fn from(fault: GiveFault) -> u8 {
-        match fault {
-            GiveFault::ShortBuffer => 8,
-            GiveFault::Spent => 16,
-        }
+        fault as u8
     }
 }

@@ -26,6 +26,7 @@ pub struct Holder {
 /// The scheme of seals. Replica r of group g has the holder at 7 × g + r; a replica above 6 or a group above 7 has none.
 #[derive(Clone, Copy)]
 pub struct Seals {
+    // One array, and not one for each group: the field is public, and users write it as one.
     pub holders: [Holder; HOLDERS],
 }
 

@@ -14,6 +14,7 @@ pub trait Fixed<const N: usize>: Written {
     ghost long: { (x : Self) → Self.fits x → length (Self.text x) ≡ N };
 }
 
+// `from_be_bytes` is each number type's own, and no trait of the library has it.
 impl Fixed<4> for u32 {
     ghost long = { λ x f. refl };
 

@@ -14,6 +14,7 @@ ghost use Rattle.octets.specs.Buffers.{overlaid};
 ghost use Rattle.octets.specs.Numbers.{bytes64};
 
 /// Writes `source` into `out` from `at` on, and answers where it ends. The caller has seen that it fits.
+// The one write that `Writer` and single writes are made of: what writes more goes through a `Writer`.
 pub fn put(out: &mut [u8], at: usize, source: &[u8]) -> usize
     requires { at + length source.now ≤ length out.old }
     ensures after { out.new ≡ overlaid out.old at source.now }

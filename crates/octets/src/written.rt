@@ -29,6 +29,7 @@ pub trait Written {
         ensures { Wrote writer.old writer.new (text self.now) };
 }
 
+// `to_be_bytes` is each number type's own, and no trait of the library has it, so each type has its impl.
 impl Written for u32 {
     ghost text = { bytes32 };
 

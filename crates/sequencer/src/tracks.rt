@@ -18,7 +18,8 @@ pub struct Tracks {
     tracks: Vec<Records<0>>,
 }
 
-// So many empty tracks, with buffers of `size` bytes.
+// So many empty tracks, with buffers of `size` bytes. One function for this and for empty indexes would take what makes
+// an item, and say of it all that stands here.
 fn empty_tracks(heap: Global, groups: u8, size: usize) -> Result<Vec<Records<0>>, AllocError>
     ensures len { IfOk result (λ v. length v.items ≡ groups) }
     ensures empty { IfOk result (λ v. All (Fresh tape_lists tape_fits 1 (has_space 0 0 size)) v.items) }

@@ -1,9 +1,10 @@
-//! An ordered table over a caller's slice of rows.
+//! An ordered table over a caller's slice of rows, and `Table`, which owns its rows.
 //!
 //! A table is a slice of rows whose keys rise strictly, for any kind of key with a total order. The calls here search
 //! it, put a new row in, and give a row another value. They allocate nothing: the caller has the rows, and where a
 //! table may grow, the free rows stand behind the filled ones. The calls ask that the keys rise, since to test it they
-//! would have to walk all rows; `rises` tests it, and `insert` and `change` keep it.
+//! would have to walk all rows; `rises` tests it, and `insert` and `change` keep it. A `Table` has its rows and their
+//! order in one value; it allocates when it is made, and its other calls ask nothing.
 
 #![tactic(auto)]
 
@@ -80,6 +81,7 @@ pub fn insert<K: Key + Drop, V: Drop>(
 }
 
 /// Gives the key's row another value, and answers whether the key has a row.
+// A flag, as the library's sets answer an insertion by one: there is nothing to say beside it.
 pub fn change<K: Key, V: Drop>(rows: &mut [Row<K, V>], key: &K, value: V) -> bool
     requires { rising K.cmp rows.old ≡ true }
     ensures answer { result ≡ is_some (lookup K.cmp rows.old key.now) }

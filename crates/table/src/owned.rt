@@ -16,7 +16,8 @@ use std::marker::Model;
 /// An ordered table: its rows, and space for more.
 #[derive(Drop)]
 pub struct Table<K: Key, V> {
-    // The first `filled` rows are the table, and the others are free.
+    // The first `filled` rows are the table, and the others are free: an insertion is that of the slice functions, which
+    // the methods call.
     rows: Vec<Row<K, V>>,
     filled: usize,
 }

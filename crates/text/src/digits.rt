@@ -27,6 +27,7 @@ impl fmt::Display for Hex<'_> {
     ghost output = { λ hex. Some (flat_map two_digits hex.0.now) };
 
     fn fmt<W: fmt::Write>(&self, f: &mut fmt::Formatter<W>) -> fmt::Result {
+        // Byte by byte: the library's `encode` asks for memory.
         for &byte in self.0 {
             write!(f, "{byte:02x}")?;
         }

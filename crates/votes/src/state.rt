@@ -10,12 +10,12 @@ use std::fmt;
 #[derive(Clone, Copy, Debug, PartialEq, Eq)]
 pub enum State {
     /// Voted commit and not ended: it holds its locks.
-    Pending,
-    Committed,
+    Pending = 1,
+    Committed = 2,
     /// Voted commit, and ended by an abort.
-    RolledBack,
+    RolledBack = 3,
     /// Voted abort.
-    Declined,
+    Declined = 4,
 }
 
 impl TryFrom<u8> for State {
@@ -38,12 +38,7 @@ impl From<State> for u8 {
     ghost from_gives = { λ state byte. byte ≡ state_byte state };
 
     fn from(state: State) -> u8 {
-        match state {
-            State::Pending => 1,
-            State::Committed => 2,
-            State::RolledBack => 3,
-            State::Declined => 4,
-        }
+        state as u8
     }
 }
 

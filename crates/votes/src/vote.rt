@@ -9,8 +9,8 @@ use std::fmt;
 /// How a replica votes on a transaction.
 #[derive(Clone, Copy, Debug, PartialEq, Eq)]
 pub enum Vote {
-    Commit,
-    Abort,
+    Commit = 1,
+    Abort = 2,
 }
 
 impl TryFrom<u8> for Vote {
@@ -31,10 +31,7 @@ impl From<Vote> for u8 {
     ghost from_gives = { λ vote byte. byte ≡ vote_byte vote };
 
     fn from(vote: Vote) -> u8 {
-        match vote {
-            Vote::Commit => 1,
-            Vote::Abort => 2,
-        }
+        vote as u8
     }
 }
 

@@ -42,7 +42,7 @@ fn is_message(sought: Kind, high: u8, low: u8, kind: u8, rest: &[u8]) -> bool
 {
     kind == u8::from(sought)
         && rest.len() <= LARGEST_MESSAGE - HEADER_SIZE
-        && high as usize * 256 + low as usize == rest.len() + 2
+        && u16::from_be_bytes([high, low]) as usize == rest.len() + 2
 }
 
 /// The message of this kind that `bytes` is the writing of, by what reads its contents.

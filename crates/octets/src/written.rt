@@ -91,6 +91,7 @@ pub fn size_of_all<T: Written>(things: &[T]) -> usize
     ensures few { result ≤ length things.now * T.most }
     ensures fit { AllByRecursion T.fits things.now }
 {
+    // A loop: with `map` and `sum`, the bound of the sum and all three clauses were left to prove.
     let mut size = 0;
     for thing in things {
         size += thing.size();

@@ -11,6 +11,7 @@ use votes::statement::Statement;
 use votes::vote::Vote;
 
 /// Whether every entry's mark is genuine for this vote on the name.
+// Name, vote and entries are what a certificate has; its type is in a crate above this one.
 pub fn are_genuine<K: MarkScheme>(scheme: &K, name: &Name, vote: Vote, entries: &[Entry]) -> bool
     ensures { result ≡ all_genuine (K.genuine scheme.now) name.now vote (map shown entries.now) }
 {

@@ -13,7 +13,7 @@ pub fn all_wide(width: usize, entries: &[Entry]) -> bool
         .all(|entry| entry.mark.as_slice().len() == width)
 }
 
-// The place of the entry in the order: by group, then by replica.
+// The place of the entry in the order: by group, then by replica; one number, as the definition has it.
 fn rank(entry: &Entry) -> u32
     ensures { result ≡ rank (shown entry.now) }
 {

@@ -1,8 +1,11 @@
 -- Things written one after another, where no writing begins another's.
-use Rattle.std.proofs.Common.{◌≡◌, ℕ, ◌+◌, ◌<◌, ◌≤◌, List, [], ◌∷◌, ◌++◌, length, sym, refl, ap, ◌∙◌, subst, append_assoc, append-nil, arith, length-append}
-use Rattle.std.specs.List.{flat_map, AllByRecursion}
-use Rattle.std.proofs.slice.Lists.{all_by_recursion_push}
-use Rattle.std.proofs.lemmas.List.{flat_map_more}
+use Rattle.std.proofs.Common.{◌≡◌, ℕ, suc, ◌<◌, ◌≤◌, List, [], ◌∷◌, ◌++◌, length, map, Some, None, Option, sym, refl, ap, ◌∙◌, subst, append_assoc, append-nil, arith, length-append}
+use Rattle.std.specs.Borrow.{Bor}
+use Rattle.std.specs.Fn.{FnReturnsAt, Shared}
+use Rattle.std.specs.List.{flat_map, AllByRecursion, FoldsTo}
+use Rattle.std.proofs.lemmas.List.{map-id}
+use Rattle.octets.specs.Fronts.{Front}
+use Rattle.envelope.specs.Many.{Leaves}
 
 -- xs are the first n things of bs, and rest is what follows
 pub record Sofar {X : Type 0} (Fits : X → Type 0) (writing : X → List ℕ) (bs : List ℕ) (n : ℕ) (xs : List X)
@@ -22,21 +25,6 @@ module _ {X : Type 0} (Fits : X → Type 0) (writing : X → List ℕ) where
     pub whole : ys ≡ xs ++ zs
     pub left : rest ≡ flat_map writing zs ++ tail
     pub fit_left : AllByRecursion Fits zs
-
-  pub one_more : (bs : List ℕ) (n : ℕ) (xs : List X) (rest : List ℕ) → Sofar Fits writing bs n xs rest
-      → (x : X) (after : List ℕ) (xs' : List X) → xs' ≡ xs ++ (x ∷ []) → Fits x → rest ≡ writing x ++ after
-      → Sofar Fits writing bs (n + 1) xs' after
-  one_more bs n xs rest h x after xs' e f r =
-      let long = length-append xs (x ∷ []) in
-      let more = flat_map_more writing [] xs x in
-      let assoc = append_assoc (flat_map writing xs) (writing x) after in
-      record {
-        many = ap length e ∙ omega (arith, long, h.many);
-        fit = subst (AllByRecursion Fits) (sym e) (all_by_recursion_push Fits xs x h.fit f);
-        split =
-            h.split ∙ ap (λ l. flat_map writing xs ++ l) r ∙ sym assoc ∙ ap (λ l. l ++ after) more
-            ∙ ap (λ l. flat_map writing l ++ after) (sym e);
-      }
 
   pub all_read : (bs : List ℕ) (n : ℕ) (xs : List X) (rest : List ℕ) → Sofar Fits writing bs n xs rest
       → length rest ≡ 0 → bs ≡ flat_map writing xs
@@ -89,3 +77,53 @@ module _ {X : Type 0} (Fits : X → Type 0) (writing : X → List ℕ) where
       pub ends : length ys ≡ n → rest ≡ tail
       ends l =
           (same_fronts xs ys rest tail h.fit fit (omega (arith, h.many)) (sym h.split ∙ e)).1
+
+-- f reads things of the code off the front of bytes, and each shows another
+module _ {F T X : Type 0} (shown : T → X) (Fits : X → Type 0) (writing : X → List ℕ)
+    (g : Shared F (Bor (List ℕ) × Unit {0}) (Option (T × Bor (List ℕ)))) (f : F) where
+  -- the bytes begin with the writing of what f reads
+  abbrev pub Found : Type 0
+  Found = (b : Bor (List ℕ)) (p : T × Bor (List ℕ)) → g.post f (b, tt) (Some p) → Fits (shown p.0) × (b.now ≡ writing (shown p.0) ++ p.1.now)
+
+  -- where f reads none, they begin with no writing
+  abbrev pub Nothing : Type 0
+  Nothing = (b : Bor (List ℕ)) → g.post f (b, tt) None → (x : X) (t : List ℕ) → Fits x → b.now ≡ writing x ++ t → ⊥
+
+  pub many_shown : (bs : List ℕ) (xs : List T) (rest : List ℕ) → FoldsTo (Leaves (FnReturnsAt g f)) bs xs rest → Found
+      → Sofar Fits writing bs (length xs) (map shown xs) rest
+  many_shown bs [] rest e found = record { many = refl; fit = tt; split = e }
+  many_shown bs (x ∷ xs) rest (between, (b, call, is), more) found =
+      let p = found call.shown (x, b) call.says.met in
+      let h = many_shown between xs rest more found in
+      record {
+        many = ap suc h.many;
+        fit = (p.0, h.fit);
+        split =
+            sym call.shows ∙ p.1 ∙ ap (λ l. writing (shown x) ++ l) (is ∙ h.split)
+            ∙ sym (append_assoc (writing (shown x)) (flat_map writing (map shown xs)) rest);
+      }
+
+  -- where one was not read, before the n-th, no n things begin the bytes
+  pub none_shown : Same Fits writing → (n : ℕ) (bs : List ℕ)
+      → (xs : List T) × (rest : List ℕ) × (length xs < n) × FoldsTo (Leaves (FnReturnsAt g f)) bs xs rest × FnReturnsAt g f rest None
+      → Found → Nothing → (ys : List X) (t : List ℕ) → length ys ≡ n → AllByRecursion Fits ys → bs ≡ flat_map writing ys ++ t → ⊥
+  none_shown same n bs (xs, rest, few, reads, none) found nothing ys t l fit e =
+      let y = next Fits writing same bs _ _ rest (many_shown bs xs rest reads found) ys t fit e (omega (arith, l)) in
+      nothing none.shown none.says.met y.0 _ y.4 (none.shows ∙ y.3)
+
+-- the same where each shows itself
+module _ {F X : Type 0} (Fits : X → Type 0) (writing : X → List ℕ)
+    (g : Shared F (Bor (List ℕ) × Unit {0}) (Option (X × Bor (List ℕ)))) (f : F) where
+  abbrev pub Fronts : Type 0
+  Fronts = (b : Bor (List ℕ)) (o : Option (X × Bor (List ℕ))) → g.post f (b, tt) o → Front Fits writing b.now o
+
+  pub many_read : (bs : List ℕ) (xs : List X) (rest : List ℕ) → FoldsTo (Leaves (FnReturnsAt g f)) bs xs rest → Fronts
+      → Sofar Fits writing bs (length xs) xs rest
+  many_read bs xs rest h front =
+      subst (λ ys. Sofar Fits writing bs (length xs) ys rest) (map-id xs)
+      (many_shown (λ x. x) Fits writing g f bs xs rest h (λ b p. front b (Some p)))
+
+  pub none_read : Same Fits writing → (n : ℕ) (bs : List ℕ)
+      → (xs : List X) × (rest : List ℕ) × (length xs < n) × FoldsTo (Leaves (FnReturnsAt g f)) bs xs rest × FnReturnsAt g f rest None
+      → Fronts → (ys : List X) (t : List ℕ) → length ys ≡ n → AllByRecursion Fits ys → bs ≡ flat_map writing ys ++ t → ⊥
+  none_read same n bs h front = none_shown (λ x. x) Fits writing g f same n bs h (λ b p. front b (Some p)) (λ b. front b None)

@@ -7,5 +7,6 @@
 #![tactic(auto)]
 
 pub mod fault;
+pub mod many;
 pub mod message;
 pub mod name;

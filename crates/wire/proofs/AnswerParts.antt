@@ -1,17 +1,22 @@
 -- What the parts that were read say of the answer that the bytes are.
-use Rattle.std.proofs.Common.{◌≡◌, ℕ, ◌-◌, ◌*◌, ◌<◌, ◌≤◌, List, [], ◌∷◌, ◌++◌, length, get_or, take, drop, Some, None, sym, refl, ap, ◌∙◌, ap₂, append_assoc, arith, length-append}
+use Rattle.std.proofs.Common.{◌≡◌, ℕ, ◌-◌, ◌*◌, ◌<◌, ◌≤◌, List, [], ◌∷◌, ◌++◌, length, get_or, take, drop, Some, None, Option, sym, refl, ap, ◌∙◌, ap₂, append_assoc, arith, length-append}
+use Rattle.std.specs.Borrow.{Bor}
+use Rattle.std.specs.Fn.{FnReturnsAt, Shared}
 use Rattle.std.specs.List.{flat_map}
 use Rattle.octets.specs.Numbers.{Fits64, bytes64}
 use Rattle.octets.proofs.Begins.{begins}
 use Rattle.octets.proofs.OneWriting.{same_number}
 use Rattle.envelope.specs.Formats.{OneWriting}
 use Rattle.envelope.proofs.Envelopes.{same_contents}
-use Rattle.envelope.proofs.Sequences.{Same, same_fronts}
+use Rattle.envelope.proofs.Sequences.{Fronts, Same, many_read, none_read, same_fronts}
+use Rattle.envelope.specs.Many.{ReadsMany}
 use Rattle.envelope.specs.declared.name.Name.{Name}
-use Rattle.wire.specs.Answers.{AnswerFits, AnswerModel, HeadFits, ValuesFit, answer_contents, answer_format, head_bytes, head_of, values_bytes}
+use Rattle.wire.specs.Answers.{AnswerFits, AnswerModel, FirstValues, HeadFits, ValuesFit, answer_contents, answer_format, head_bytes, head_of, values_bytes}
 use Rattle.wire.specs.Fields.{NameFits, name_bytes}
 use Rattle.votes.specs.Grounds.{GroundFits, ground_byte, ground_end, ground_of}
 use Rattle.votes.specs.Marks.{largest_mark}
+use Rattle.votes.specs.Values.{most_values}
+use Rattle.lists.specs.declared.BoundedList.{BoundedList}
 use Rattle.votes.specs.States.{state_byte, state_of}
 use Rattle.votes.specs.Votes.{vote_byte, vote_of}
 use Rattle.wire.specs.declared.answer.reader.Head.{Head}
@@ -31,13 +36,16 @@ length_values (v ∷ vs) = let h = length_values vs in omega arith
 pub same_value : Same Fits64 bytes64
 same_value = same_number 8
 
--- bs is a count and the rest
-module _ (bs : List ℕ) (count : ℕ) (rest : List ℕ) (e : bs ≡ count ∷ rest) where
-  pub after_count : (vs t : List ℕ) → bs ≡ values_bytes vs ++ t → (count ≡ length vs) × (rest ≡ flat_map bytes64 vs ++ t)
-  after_count vs t w = (cc (e, w), cc (e, w))
-
-  pub counted : (vs t : List ℕ) → length vs ≡ count → rest ≡ flat_map bytes64 vs ++ t → bs ≡ values_bytes vs ++ t
-  counted vs t n split = cc
+-- bs is a count and the rest, off which f reads as many values
+module _ (bs : List ℕ) (count : ℕ) (rest : List ℕ) (e : bs ≡ count ∷ rest) (few : count ≤ most_values) {F : Type 0}
+    (g : Shared F (Bor (List ℕ) × Unit {0}) (Option (ℕ × Bor (List ℕ)))) (f : F) (front : Fronts Fits64 bytes64 g f) where
+  pub first_values : (r : Option (BoundedList ℕ most_values × Bor (List ℕ))) → ReadsMany count (FnReturnsAt g f) rest r → FirstValues bs r
+  first_values (Some p) h =
+      let s = many_read Fits64 bytes64 g f rest _ _ h.1 front in
+      ((omega (arith, h.0), s.fit), cc (e, h.0, s.split))
+  first_values None h = λ vs t fit w.
+      let n : count ≡ length vs = cc (e, w) in
+      none_read Fits64 bytes64 g f same_value count rest h front vs t (sym n) fit.1 (cc (e, w))
 
 -- no writing of values begins another's
 same_values : Same ValuesFit values_bytes

@@ -8,6 +8,7 @@ use crate::operation::read_operation;
 use crate::operations::list::writes_apart;
 use crate::operations::{FILLER, MOST_OPERATIONS, Operations};
 use envelope::fault::ReadFault;
+use envelope::many::read_many;
 use envelope::message::{Kind, read_message};
 use octets::fixed::read_fixed;
 
@@ -16,13 +17,7 @@ fn read_operations(count: u8, text: &[u8]) -> Option<Operations>
     requires { count ≤ most_operations }
     ensures { ReadsOperations count text.now result }
 {
-    let mut operations = Operations::new(FILLER);
-    let mut rest = text;
-    for i in 0..count {
-        let (operation, after) = read_operation(rest)?;
-        operations.push(operation);
-        rest = after;
-    }
+    let (operations, rest) = read_many(FILLER, count, text, read_operation)?;
     if rest.is_empty() {
         Some(operations)
     } else {

@@ -8,6 +8,7 @@ ghost use Rattle.votes.specs.Grounds.{FoundFits, blocked_by, ground_of};
 use crate::answer::Answer;
 use crate::field::split_bytes;
 use envelope::fault::ReadFault;
+use envelope::many::read_many;
 use envelope::message::{Kind, read_message};
 use envelope::name::Name;
 use octets::fixed::read_fixed;
@@ -57,14 +58,7 @@ fn read_values(text: &[u8]) -> Option<(Values, &[u8])>
     if *count as usize > MOST_VALUES {
         return None;
     }
-    let mut values = Values::new(0);
-    let mut rest = rest;
-    for i in 0..*count {
-        let (value, after) = read_fixed(rest)?;
-        values.push(value);
-        rest = after;
-    }
-    Some((values, rest))
+    read_many(0, *count, rest, read_fixed)
 }
 
 // The ground with the blocker that `end` is.

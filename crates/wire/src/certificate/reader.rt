@@ -8,6 +8,7 @@ ghost use Rattle.wire.specs.EntryFronts.{FirstEntry};
 use crate::certificate::Certificate;
 use crate::field::split_bytes;
 use envelope::fault::ReadFault;
+use envelope::many::read_many;
 use envelope::message::{Kind, read_message};
 use octets::fixed::read_fixed;
 use votes::entry::{Entries, Entry, MOST_ENTRIES};
@@ -36,17 +37,12 @@ fn read_entries(width: usize, count: u8, text: &[u8]) -> Option<Entries>
     requires { count ≤ most_entries }
     ensures { ReadsEntries width count text.now result }
 {
-    let mut entries = Entries::new(Entry {
+    let filler = Entry {
         group: 0,
         replica: 0,
         mark: Mark::new(&[])?,
-    });
-    let mut rest = text;
-    for i in 0..count {
-        let (entry, after) = read_entry(width, rest)?;
-        entries.push(entry);
-        rest = after;
-    }
+    };
+    let (entries, rest) = read_many(filler, count, text, |front| read_entry(width, front))?;
     if rest.is_empty() { Some(entries) } else { None }
 }
 

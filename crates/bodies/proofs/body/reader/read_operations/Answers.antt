@@ -1,27 +1,24 @@
-use Rattle.std.proofs.Common.{[], length, sym, ap, ◌∙◌, append-nil, arith, true-eqb, false-eqb}
+use Rattle.std.proofs.Common.{[], length, sym, ap, ◌∙◌, append-nil, true-eqb, false-eqb}
 use Rattle.bodies.specs.Operations.{OperationFits, operation_bytes}
 use Rattle.bodies.proofs.OneOperation.{same_operation}
-use Rattle.envelope.proofs.Sequences.{one_more, next, ends, all_read}
+use Rattle.envelope.proofs.Sequences.{all_read, ends, many_read, none_read}
 use Rattle.bodies.proofs.body.reader.read_operations.Goals as goal
 
-pub returns-in_err-operation : goal.returns-in_err-operation
-returns-in_err-operation c =
+pub returns-in_err-operations : goal.returns-in_err-operations
+returns-in_err-operations c =
     rw c.from_residual.ensures
-    (λ os l f e.
-    let n = next OperationFits operation_bytes same_operation _ _ _ _ c.loop-i.invariant os [] f (e ∙ sym (append-nil _)) (omega arith) in
-    c.in_err-operation.ensures n.0 _ n.4 n.3)
-
-pub loop-i-preserved : goal.loop-i-preserved
-loop-i-preserved c =
-    let o = c.in_ok-operation.ensures in
-    one_more OperationFits operation_bytes _ _ _ _ c.loop-i.invariant _ _ _ c.push.ensures o.0 o.1
+    (λ os l f e. none_read OperationFits operation_bytes _ _ same_operation _ _ c.in_err-operations.ensures (λ b o p. p) os [] l f (e ∙ sym (append-nil _)))
 
 pub returns-then-is_empty : goal.returns-then-is_empty
 returns-then-is_empty c =
-    (omega arith, c.loop-i.invariant.fit, all_read OperationFits operation_bytes _ _ _ _ c.loop-i.invariant (true-eqb _ 0 c.if-is_empty.ensures))
+    let o = c.in_ok-operations.ensures in
+    let h = many_read OperationFits operation_bytes _ _ _ _ _ o.1 (λ b o p. p) in
+    (o.0, h.fit, all_read OperationFits operation_bytes _ _ _ _ h (true-eqb _ 0 c.if-is_empty.ensures))
 
 pub returns-else-is_empty : goal.returns-else-is_empty
 returns-else-is_empty c =
     λ os l f e.
-    let none = ends OperationFits operation_bytes same_operation _ _ _ _ c.loop-i.invariant os [] f (e ∙ sym (append-nil _)) (omega arith) in
+    let o = c.in_ok-operations.ensures in
+    let h = many_read OperationFits operation_bytes _ _ _ _ _ o.1 (λ b o p. p) in
+    let none = ends OperationFits operation_bytes same_operation _ _ _ _ h os [] f (e ∙ sym (append-nil _)) (l ∙ sym o.0) in
     false-eqb _ 0 c.if-is_empty.ensures (ap length none)

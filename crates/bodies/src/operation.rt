@@ -52,6 +52,18 @@ impl Operation {
     {
         matches!(self, Operation::Write { key, .. } if *key == sought)
     }
+
+    // The code, the key and, but for a read, the value. The codes are those of `read_operation`: an enum of them would
+    // only name the variants again.
+    fn parts(&self) -> (u8, u32, Option<u64>)
+        ensures { operation_bytes self.now ≡ result.0 ∷ (key_bytes result.1 ++ optional bytes64 result.2) }
+    {
+        match *self {
+            Operation::Read { key } => (1, key, None),
+            Operation::Write { key, value } => (2, key, Some(value)),
+            Operation::Compare { key, value } => (3, key, Some(value)),
+        }
+    }
 }
 
 // The operation that `text` begins with, and what follows it.
@@ -73,19 +85,6 @@ pub(crate) fn read_operation(text: &[u8]) -> Option<(Operation, &[u8])>
     }
 }
 
-impl Operation {
-    // The code, the key and, but for a read, the value.
-    fn parts(&self) -> (u8, u32, Option<u64>)
-        ensures { operation_bytes self.now ≡ result.0 ∷ (key_bytes result.1 ++ optional bytes64 result.2) }
-    {
-        match *self {
-            Operation::Read { key } => (1, key, None),
-            Operation::Write { key, value } => (2, key, Some(value)),
-            Operation::Compare { key, value } => (3, key, Some(value)),
-        }
-    }
-}
-
 impl Written for Operation {
     ghost text = { operation_bytes };
 
@@ -96,8 +95,9 @@ impl Written for Operation {
     fn size(&self) -> usize {
         match self {
             Operation::Read { key } => 1 + key.size(),
-            Operation::Write { key, value } => 1 + key.size() + value.size(),
-            Operation::Compare { key, value } => 1 + key.size() + value.size(),
+            Operation::Write { key, value } | Operation::Compare { key, value } => {
+                1 + key.size() + value.size()
+            }
         }
     }
 

@@ -18,7 +18,8 @@ use votes::state::State;
 use votes::values::{MOST_VALUES, Values};
 use votes::vote::Vote;
 
-// The fields before the mark, with the ground as its byte.
+// The fields before the mark, with the ground as its byte: at ground 2 the blocker stands at the end of the answer, so that
+// the byte alone is no ground.
 #[derive(Clone, Copy)]
 pub struct Head {
     name: Name,

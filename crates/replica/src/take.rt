@@ -60,6 +60,7 @@ impl Replica {
         ensures after { Becomes self.old self.new (decided (config self.old) (view self.old) (transaction place) (objection (config self.old) (view self.old) (transaction place).operations)).0 }
         ensures reply { Ok (Some (reply_model result)) ≡ (decided (config self.old) (view self.old) (transaction place) (objection (config self.old) (view self.old) (transaction place).operations)).1 }
     {
+        // A match, since two closures cannot both borrow the replica to change it.
         match self.objection_to(place.body.operations()) {
             Some(ground) => self.decline(&place.name, ground),
             None => self.admit(place),

@@ -1,12 +1,14 @@
 // What every message has: its length, the version, a kind and the rest.
 ghost use Rattle.std.specs.Prelude.{◌≡◌, ◌+◌, ◌*◌, ◌≤◌, ◌&&◌, length, ◌==◌, nat_le};
 ghost use Rattle.std.specs.Fn.{FnOnceReturnsAt};
+ghost use Rattle.octets.specs.Buffers.{overlaid};
 ghost use Rattle.octets.specs.Writers.{Room, Wrote};
 ghost use Rattle.envelope.specs.Formats.{Opened, write_after, write_answer};
 ghost use Rattle.envelope.specs.Kinds.{kind_byte};
 ghost use Rattle.envelope.specs.Messages.{header, largest_message, message};
 
 use crate::fault::{ReadFault, WriteFault};
+use octets::put;
 use octets::writer::Writer;
 use octets::written::Written;
 
@@ -36,11 +38,11 @@ impl From<Kind> for u8 {
     }
 }
 
-// Whether a message of this length and kind byte, with this rest, is of the kind that is sought and not too long.
-fn is_message(sought: Kind, high: u8, low: u8, kind: u8, rest: &[u8]) -> bool
-    ensures { result ≡ (kind == kind_byte sought && (nat_le (length rest.now + 4) largest_message && high * 256 + low == length rest.now + 2)) }
+/// Whether a message of this length and kind, with this rest, is one of the kind that is sought and not too long.
+pub fn is_message(sought: u8, high: u8, low: u8, kind: u8, rest: &[u8]) -> bool
+    ensures { result ≡ (kind == sought && (nat_le (length rest.now + 4) largest_message && high * 256 + low == length rest.now + 2)) }
 {
-    kind == u8::from(sought)
+    kind == sought
         && rest.len() <= LARGEST_MESSAGE - HEADER_SIZE
         && u16::from_be_bytes([high, low]) as usize == rest.len() + 2
 }
@@ -58,20 +60,41 @@ pub fn read_message<T, F: FnOnce(&[u8]) -> Option<T>>(
     let [high, low, 1, byte, rest @ ..] = bytes else {
         return Err(ReadFault::Malformed);
     };
-    if !is_message(kind, *high, *low, *byte, rest) {
+    if !is_message(kind.into(), *high, *low, *byte, rest) {
         return Err(ReadFault::Malformed);
     }
-    contents(rest).ok_or(ReadFault::Malformed)
+    // A match: with `ok_or` a message is copied once more.
+    match contents(rest) {
+        Some(message) => Ok(message),
+        None => Err(ReadFault::Malformed),
+    }
 }
 
-// Writes the first four bytes of a message whose kind brings `size` bytes.
-fn write_header(writer: &mut Writer<'_>, kind: Kind, size: usize)
+// The first four bytes of a message whose kind brings `size` bytes.
+fn header_bytes(kind: u8, size: usize) -> [u8; HEADER_SIZE]
+    requires { size + 4 ≤ largest_message }
+    ensures { result ≡ header kind size }
+{
+    let [high, low] = (size as u16 + 2).to_be_bytes();
+    [high, low, VERSION, kind]
+}
+
+/// Writes the first four bytes of a message whose kind brings `size` bytes, and answers where they end.
+pub fn write_header(out: &mut [u8], kind: u8, size: usize) -> usize
+    requires { (4 ≤ length out.old) × (size + 4 ≤ largest_message) }
+    ensures after { out.new ≡ overlaid out.old 0 (header kind size) }
+    ensures end { result ≡ 4 }
+{
+    put(out, 0, &header_bytes(kind, size))
+}
+
+// Writes them at the writer's place.
+fn put_header(writer: &mut Writer<'_>, kind: Kind, size: usize)
     requires room { Room writer.old (header (kind_byte kind) size) }
     requires short { size + 4 ≤ largest_message }
     ensures { Wrote writer.old writer.new (header (kind_byte kind) size) }
 {
-    let [high, low] = (size as u16 + 2).to_be_bytes();
-    writer.put(&[high, low, VERSION, kind.into()]);
+    writer.put(&header_bytes(kind.into(), size));
 }
 
 /// Writes the message of this kind and these contents into `out` and answers its length, or refuses and leaves `out` as
@@ -91,7 +114,7 @@ pub fn write_message<T: Written>(
         return Err(WriteFault::ShortBuffer);
     }
     let mut writer = Writer::new(out);
-    write_header(&mut writer, kind, size);
+    put_header(&mut writer, kind, size);
     contents.write(&mut writer);
     Ok(writer.written())
 }

@@ -1,5 +1,5 @@
 -- What one write after another leaves in a buffer.
-use Rattle.std.proofs.Common.{◌≡◌, ℕ, ◌+◌, ◌≤◌, List, ◌++◌, length, take, drop, sym, refl, ap, ◌∙◌, ap₂, append_assoc, arith, length-append}
+use Rattle.std.proofs.Common.{◌≡◌, ℕ, ◌+◌, ◌≤◌, List, [], ◌++◌, length, take, drop, sym, refl, ap, ◌∙◌, ap₂, append_assoc, append-nil, arith, length-append, take-append-drop}
 use Rattle.std.proofs.lemmas.List.{length-take, length-drop, take_at, drop_at, drop-drop}
 use Rattle.octets.specs.Buffers.{overlaid}
 
@@ -20,6 +20,12 @@ rest_overlaid xs ys p k fits =
     let size : length (take p xs ++ ys) ≡ q = simp (length-append, length-take) (omega arith) in
     sym (drop-drop k q (overlaid xs p ys)) ∙ ap (drop k) (drop_at (take p xs ++ ys) (drop q xs) q size)
     ∙ drop-drop k q xs
+
+-- nothing is written
+pub overlaid_none : (xs : List ℕ) (p : ℕ) → xs ≡ overlaid xs p []
+overlaid_none xs p =
+    let e : p ≡ p + 0 = omega arith in
+    sym (take-append-drop p xs) ∙ ap₂ (λ front n. front ++ drop n xs) (sym (append-nil (take p xs))) e
 
 -- two writes, one right after the other, are one
 pub overlaid_more : (xs ys zs first source second : List ℕ) (p q : ℕ) → p ≤ length xs → first ≡ overlaid xs p ys

@@ -1,3 +1,4 @@
+pub mod Books
 pub mod Meetings
 pub mod Objections
 pub mod Parsings

@@ -8,7 +8,7 @@ ghost use Rattle.replica.specs.Views.{Becomes, config, view};
 ghost use Rattle.table.specs.Tables.{with_rows};
 ghost use Rattle.wire.specs.Certificates.{certificate_model};
 
-use crate::book::{Delivered, meet_named};
+use crate::book::{Delivered, meet_in_table};
 use crate::state::{PendingPlace, Replica};
 use envelope::name::Name;
 use locks::partition::GroupOperations;
@@ -73,7 +73,7 @@ impl Replica {
     fn end(&mut self, name: &Name, vote: Vote)
         ensures { Becomes self.old self.new (ended_named (config self.old) (view self.old) name.now vote) }
     {
-        meet_named(&mut self.book, name, Delivered::Certificate(vote));
+        meet_in_table(&mut self.book, name, Delivered::Certificate(vote));
         if let Some(held) = self.pending.release(name) {
             let transaction = GroupOperations {
                 partition: self.partition,

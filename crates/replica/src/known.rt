@@ -13,7 +13,7 @@ ghost use Rattle.table.specs.Orders.{by_bytes};
 ghost use Rattle.table.specs.Rows.{lookup};
 ghost use Rattle.lists.specs.Lists.{listed};
 
-use crate::book::{Delivered, meet_named};
+use crate::book::{Delivered, meet_in_table};
 use crate::reply::Reply;
 use crate::state::{PendingPlace, Replica};
 use envelope::name::Name;
@@ -86,7 +86,7 @@ impl Replica {
         ensures reply { option_map reply_model result ≡ option_map (recalled (config self.old) (view self.old) name.now) (lookup by_bytes (view self.old).book name.now) }
         ensures after { Becomes self.old self.new (view self.old) }
     {
-        let state = meet_named(&mut self.book, name, delivered)?;
+        let state = meet_in_table(&mut self.book, name, delivered)?;
         Some(self.recall(name, state))
     }
 

@@ -14,14 +14,14 @@ two_bytes n l = omega arith
 
 -- what is read off bytes that begin with a record
 record Begun (lead : ℕ) (e : Entry) (rest : List ℕ) : Type 0 where
-  said : said_length lead (record_of lead e ++ rest) ≡ length e.message
+  said : Proper lead e → said_length lead (record_of lead e ++ rest) ≡ length e.message
   text : drop (lead + 2) (record_of lead e ++ rest) ≡ e.message ++ rest
   label : take lead (record_of lead e ++ rest) ≡ take lead (e.group ∷ [])
 
-begun : (lead : ℕ) → lead ≤ 1 → (e : Entry) → Proper lead e → (rest : List ℕ) → Begun lead e rest
-begun zero low e p rest = record { said = two_bytes _ p.sized.1; text = refl; label = refl }
-begun (suc zero) low e p rest = record { said = two_bytes _ p.sized.1; text = refl; label = refl }
-begun (suc (suc k)) low e p rest = absurd (omega arith)
+begun : (lead : ℕ) → lead ≤ 1 → (e : Entry) (rest : List ℕ) → Begun lead e rest
+begun zero low e rest = record { said = λ p. two_bytes _ p.sized.1; text = refl; label = refl }
+begun (suc zero) low e rest = record { said = λ p. two_bytes _ p.sized.1; text = refl; label = refl }
+begun (suc (suc k)) low e rest = absurd (omega arith)
 
 pub length_record : (lead : ℕ) → lead ≤ 1 → (e : Entry) → length (record_of lead e) ≡ record_size lead (length e.message)
 length_record zero low e = omega arith
@@ -34,25 +34,25 @@ module _ (lead : ℕ) (low : lead ≤ 1) where
     bs = record_of lead e ++ rest
 
     front : Begun lead e rest
-    front = begun lead low e p rest
+    front = begun lead low e rest
 
     pub first_of : first lead bs ≡ e
     first_of =
         let group = ap (λ l. slice_index l 0) front.label ∙ p.placed in
-        let message = ap₂ take front.said front.text ∙ take_at e.message rest _ refl in
+        let message = ap₂ take (front.said p) front.text ∙ take_at e.message rest _ refl in
         λ i. record { group = group i; message = message i }
 
     behind_of : drop (record_size lead (said_length lead bs)) bs ≡ rest
     behind_of =
-        drop_at (record_of lead e) rest _ (length_record lead low e ∙ sym (ap (record_size lead) front.said))
+        drop_at (record_of lead e) rest _ (length_record lead low e ∙ sym (ap (record_size lead) (front.said p)))
 
     pub begins_of : has_space lead 0 (length bs) (said_length lead bs) ≡ true
     begins_of =
         let n : ℕ = said_length lead bs in
         let long = length-append (record_of lead e) rest in
-        and_from (nat_le 1 n) _ (le-leb 1 n (omega (arith, front.said, p.sized.0)))
-        (and_from (nat_le n largest_message) _ (le-leb n _ (omega (arith, front.said, p.sized.1)))
-        (le-leb (0 + record_size lead n) (length bs) (omega (arith, front.said, length_record lead low e))))
+        and_from (nat_le 1 n) _ (le-leb 1 n (omega (arith, front.said p, p.sized.0)))
+        (and_from (nat_le n largest_message) _ (le-leb n _ (omega (arith, front.said p, p.sized.1)))
+        (le-leb (0 + record_size lead n) (length bs) (omega (arith, front.said p, length_record lead low e))))
 
   -- the records of entries store these entries
   decoded : (es : List Entry) → AllByRecursion (Proper lead) es → (n : ℕ) → length es ≤ n

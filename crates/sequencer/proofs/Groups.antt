@@ -1,19 +1,20 @@
 -- Records, by the index of each group.
 use Rattle.std.proofs.Common.{◌≡◌, ℕ, zero, suc, ◌*◌, ◌/◌, ◌<◌, ◌≤◌, Bool, true, false, cond, List, [], ◌∷◌, ◌++◌, map, length, get_or, take, set, Some, None, ◌≢◌, ◌==◌, nat_lt, slice_index, sym, refl, ap, ap₂, ◌∙◌, subst, ⊎_elim, Vec, Global, vec_items, vec_len, vec_capacity, arith, length-set}
 use Rattle.std.specs.Option.{option_map}
-use Rattle.std.specs.List.{All, AllByRecursion, slice_get}
+use Rattle.std.specs.List.{All, range_with_len, slice_get}
 use Rattle.std.proofs.ByRecursion.{All-get_or}
 use Rattle.std.proofs.Math.Nat.{le-div_iff_mul-le}
-use Rattle.std.proofs.lemmas.List.{append-nil, get_or-set_other, get_or-set_same}
-use Rattle.std.proofs.lemmas.Bool.{and_parts, cases_eq, cond-true, cond-false, eq-eqb, eqb-true, false≢true, le-ltb, lt-ltb, ltb-true, ne_eqb}
+use Rattle.std.proofs.lemmas.List.{get_or-set_other, get_or-set_same}
+use Rattle.std.proofs.lemmas.Bool.{and_parts, cases_eq, cond-true, cond-false, eqb-true, false≢true, le-ltb, lt-ltb, ltb-true}
 use Rattle.std.proofs.lemmas.Option.{slice_get-map, slice_get_past, slice_get_read}
+use Rattle.sequencer.specs.Lists.{is_nil}
 use Rattle.sequencer.specs.Places.{Starts, message_at, starts_of}
 use Rattle.sequencer.specs.Records.{OnlyRecords, entries, messages_of, record_of, record_size}
 use Rattle.sequencer.specs.Tapes.{TapeLeft, groups_of, tape_fits, tape_lists}
 use Rattle.sequencer.specs.Bounds.{Proper, Spacious, spacious}
 use Rattle.sequencer.specs.declared.records.Records.{Records}
 use Rattle.sequencer.proofs.Decoding.{only_more}
-use Rattle.sequencer.proofs.Starting.{count_starts, messages_at, messages_more, starts_in_place, starts_more}
+use Rattle.sequencer.proofs.Starting.{count_starts, indexed_messages, indexed_starts, messages_more, starts_other, starts_own}
 
 -- no bytes store nothing
 pub only_none : (lead : ℕ) → OnlyRecords lead []
@@ -24,9 +25,26 @@ pub starts_none : (lead g : ℕ) → starts_of lead [] g ≡ []
 unfolding entries
 starts_none lead g = refl
 
+pub all_starts_none : (lead n : ℕ) → map (λ _. []) (range_with_len 0 n) ≡ map (starts_of lead []) (range_with_len 0 n)
+unfolding entries
+all_starts_none lead n = refl
+
 pub messages_none : (lead g : ℕ) → messages_of lead [] g ≡ []
 unfolding entries
 messages_none lead g = refl
+
+pub is_nil_map : {X Y : Type 0} (f : X → Y) (xs : List X) → is_nil (map f xs) ≡ is_nil xs
+is_nil_map f [] = refl
+is_nil_map f (x ∷ xs) = refl
+
+-- an index of full size has space for one more start where a record has space
+pub index_space : (lead used size n count limit : ℕ) → Spacious lead used size n → record_size lead 1 * count ≤ used
+    → size / record_size lead 1 ≤ limit → count < limit
+index_space lead used size n count limit h few fits =
+    let some : 0 < record_size lead 1 = omega arith in
+    let more : suc count ≤ size / record_size lead 1 =
+    (le-div_iff_mul-le some).1 (omega (arith, few, h.inside, h.sized.0)) in
+    omega (arith, more, fits)
 
 -- what holds of each element and its place still does after one of them has become y
 each_set : {X : Type 0} (P : ℕ → X → Type 0) (xs : List X) (g : ℕ) (y : X) → g < length xs → P g y
@@ -45,11 +63,17 @@ placed (suc zero) g n low single within = refl
 placed (suc (suc k)) g n low single within = absurd (omega arith)
 
 -- a list that is there grew, and one that is not did not
-list_more : {X : Type 0} (b c : Bool) (xs xs' ys : List X) → (c ≡ true → b ≡ true) → xs' ≡ xs ++ cond c ys []
+list_grown : {X : Type 0} (b c : Bool) (xs xs' ys : List X) → (c ≡ true → b ≡ true) → xs' ≡ xs ++ cond c ys []
     → cond b xs' [] ≡ cond b xs [] ++ cond c ys []
-list_more true c xs xs' ys there e = e
-list_more false true xs xs' ys there e = absurd (false≢true (there refl))
-list_more false false xs xs' ys there e = refl
+list_grown true c xs xs' ys there e = e
+list_grown false true xs xs' ys there e = absurd (false≢true (there refl))
+list_grown false false xs xs' ys there e = refl
+
+-- where each list of messages grew by those to its group, so did each list of the groups that there are
+pub list_more : (n g h : ℕ) (ms ms' ks : List (List ℕ)) → g < n → ms' ≡ ms ++ cond (g == h) ks []
+    → cond (nat_lt h n) ms' [] ≡ cond (nat_lt h n) ms [] ++ cond (g == h) ks []
+list_more n g h ms ms' ks l =
+    list_grown (nat_lt h n) (g == h) ms ms' ks (λ q. subst (λ k. nat_lt k n ≡ true) (eqb-true g h q) (lt-ltb g n l))
 
 module _ {lead : ℕ} (t : Records lead) (g : ℕ) where
   -- a group that there is not
@@ -63,8 +87,8 @@ module _ {lead : ℕ} (t : Records lead) (g : ℕ) where
 
     pub listed : tape_lists t g ≡ map (message_at lead t.bytes.items) i.items
     listed =
-        cond-true _ _ _ (lt-ltb _ _ within) ∙ messages_at lead t.lead t.bytes.items t.whole g
-        ∙ ap (map (message_at lead t.bytes.items)) (sym indexed)
+        cond-true _ _ _ (lt-ltb _ _ within)
+        ∙ sym (indexed_messages lead t.lead t.bytes.items t.bytes.items i.items g refl t.whole indexed)
 
     pub numbered_past : (n : ℕ) → length i.items ≤ n → slice_get (tape_lists t g) n ≡ None
     numbered_past n l =
@@ -78,8 +102,7 @@ module _ {lead : ℕ} (t : Records lead) (g : ℕ) where
 
       pub started : Starts lead t.bytes.items p
       started =
-          let all = subst (AllByRecursion (Starts lead t.bytes.items)) (sym indexed)
-          (starts_in_place lead t.lead t.bytes.items t.whole g) in
+          let all = indexed_starts lead t.lead t.bytes.items t.bytes.items i.items g refl t.whole indexed in
           subst (Starts lead t.bytes.items) (sym at) (All-get_or (Starts lead t.bytes.items) i.items n p l all)
 
   -- a message that fits
@@ -97,23 +120,17 @@ module _ {lead : ℕ} (t : Records lead) (g : ℕ) where
       pub whole_more : OnlyRecords lead bs
       whole_more = subst (OnlyRecords lead) (sym more) (only_more lead t.lead t.bytes.items t.whole _ proper)
 
-      each_more : (h : ℕ)
-          → starts_of lead bs h ≡ starts_of lead t.bytes.items h ++ cond (g == h) (length t.bytes.items ∷ []) []
-      each_more h = ap (λ l. starts_of lead l h) more ∙ starts_more lead t.lead t.bytes.items t.whole h _ proper
-
       -- the index of the group with one more start
       pub indexed_more : (i i' : Vec ℕ Global) (k : ℕ) → i ≡ get_or t.indexes.items g i → k ≡ length t.bytes.items
           → vec_items i' ≡ vec_items i ++ k ∷ [] → (h : ℕ) (d : Vec ℕ Global)
           → h < length (set t.indexes.items g i') → vec_items (get_or (set t.indexes.items g i') h d) ≡ starts_of lead bs h
       indexed_more i i' k is at e =
-          let end = length t.bytes.items ∷ [] in
           let own : vec_items i' ≡ starts_of lead bs g =
           e ∙ ap₂ (λ ps p. ps ++ p ∷ []) (indexed i is parts.0) at
-          ∙ sym (each_more g ∙ ap (λ b. starts_of lead t.bytes.items g ++ cond b end []) (eq-eqb g g refl)) in
+          ∙ sym (ap (λ l. starts_of lead l g) more ∙ starts_own lead t.lead t.bytes.items t.whole _ proper) in
           each_set (λ h x. vec_items x ≡ starts_of lead bs h) t.indexes.items g i' parts.0 own
-          (λ h d l ne. t.indexed h d l
-          ∙ sym (each_more h ∙ ap (λ b. starts_of lead t.bytes.items h ++ cond b end []) (ne_eqb g h (λ q. ne (sym q)))
-          ∙ append-nil (starts_of lead t.bytes.items h)))
+          (λ h d l ne. t.indexed h d l ∙ starts_other lead t.lead t.bytes.items t.whole _ proper h ne
+          ∙ ap (λ l. starts_of lead l h) (sym more))
 
     module _ (i : Vec ℕ Global) (is : i ≡ get_or t.indexes.items g i) where
       enough : t.size / record_size lead 1 ≤ vec_capacity i
@@ -121,14 +138,10 @@ module _ {lead : ℕ} (t : Records lead) (g : ℕ) where
 
       pub room : vec_len i < vec_capacity i
       room =
-          let one : ℕ = record_size lead 1 in
-          let some : 0 < one = omega arith in
-          let used : one * vec_len i ≤ length t.bytes.items =
-          subst (λ n. one * n ≤ length t.bytes.items) (sym (i.ok.0 ∙ ap length (indexed i is parts.0)))
+          let used =
+          subst (λ n. record_size lead 1 * n ≤ length t.bytes.items) (sym (i.ok.0 ∙ ap length (indexed i is parts.0)))
           (count_starts lead t.lead t.bytes.items t.whole g) in
-          let more : suc (vec_len i) ≤ t.size / one =
-          (le-div_iff_mul-le some).1 (omega (arith, used, parts.1.inside, parts.1.sized.0)) in
-          omega (arith, more, enough)
+          index_space lead (length t.bytes.items) t.size (length m) (vec_len i) (vec_capacity i) parts.1 used enough
 
       pub limit_more : (i' : Vec ℕ Global) → vec_capacity i' ≡ vec_capacity i
           → All (λ x. t.size / record_size lead 1 ≤ vec_capacity x) (set t.indexes.items g i')
@@ -141,6 +154,5 @@ module _ {lead : ℕ} (t : Records lead) (g : ℕ) where
         → (h : ℕ) → tape_lists t' h ≡ tape_lists t h ++ cond (g == h) (m ∷ []) []
     lists_more t' left h =
         ap (λ n. cond (nat_lt h n) (messages_of lead t'.bytes.items h) []) left.1
-        ∙ list_more (nat_lt h (groups_of t)) (g == h) _ _ _
-        (λ q. subst (λ k. nat_lt k (groups_of t) ≡ true) (eqb-true g h q) (lt-ltb _ _ parts.0))
+        ∙ list_more (groups_of t) g h _ _ _ parts.0
         (ap (λ b. messages_of lead b.used h) left.0 ∙ messages_more lead t.lead t.bytes.items t.whole h _ proper)

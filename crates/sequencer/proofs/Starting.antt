@@ -1,12 +1,13 @@
 -- Where the records of a group start, and the messages that stand there.
-use Rattle.std.proofs.Common.{◌≡◌, ℕ, ◌+◌, ◌*◌, ◌≤◌, Bool, true, false, cond, List, [], ◌∷◌, ◌++◌, map, length, drop, ◌==◌, sym, refl, ap, ap₂, ◌∙◌, subst, append_assoc, mul-le-mul_left, arith, length-append}
+use Rattle.std.proofs.Common.{◌≡◌, ℕ, ◌+◌, ◌*◌, ◌≤◌, Bool, true, false, cond, List, [], ◌∷◌, ◌++◌, map, length, drop, ◌==◌, ◌≢◌, sym, refl, ap, ap₂, ◌∙◌, subst, append_assoc, arith, length-append}
 use Rattle.std.specs.List.{flat_map, AllByRecursion}
-use Rattle.std.proofs.lemmas.List.{drop_at, length-map}
+use Rattle.std.proofs.lemmas.List.{append-nil, drop_at, length-map}
+use Rattle.std.proofs.lemmas.Bool.{eq-eqb, ne_eqb}
 use Rattle.envelope.specs.Messages.{largest_message}
 use Rattle.sequencer.specs.Places.{Starts, message_at, starts_from, starts_of}
 use Rattle.sequencer.specs.Records.{Entry, OnlyRecords, entries, first, messages_of, of_group, record_of, record_size, said_length}
-use Rattle.sequencer.specs.Bounds.{Proper, fewer, proper_entries, spacious}
-use Rattle.sequencer.proofs.Decoding.{begins_of, entries_more, first_of, length_record, many}
+use Rattle.sequencer.specs.Bounds.{Proper, count_messages, proper_entries, spacious}
+use Rattle.sequencer.proofs.Decoding.{begins_of, entries_more, first_of, length_record}
 
 -- a filter goes on at the end of a list
 cond_append : {X : Type 0} (b : Bool) (x : X) (xs ys zs : List X) → zs ≡ xs ++ ys
@@ -76,9 +77,7 @@ module _ (lead : ℕ) (low : lead ≤ 1) where
     pub count_starts : record_size lead 1 * length (starts_of lead bs g) ≤ length bs
     count_starts =
         let same = ap length messages_at ∙ length-map (starts_of lead bs g) (message_at lead bs) in
-        let all = many lead low (entries lead bs) (proper_entries lead bs) in
-        subst (λ n. record_size lead 1 * n ≤ length bs) same
-        (omega (arith, mul-le-mul_left (record_size lead 1) (fewer g (entries lead bs)), ap length whole))
+        subst (λ n. record_size lead 1 * n ≤ length bs) same (count_messages lead bs g)
 
     module _ (e : Entry) (p : Proper lead e) where
       pub messages_more : messages_of lead (bs ++ record_of lead e) g
@@ -90,3 +89,27 @@ module _ (lead : ℕ) (low : lead ≤ 1) where
       starts_more =
           ap (starts_from lead g 0) (entries_more lead low bs whole e p)
           ∙ starts_from_more g 0 (length bs) (entries lead bs) e (omega (arith, ap length whole))
+
+  -- the starts of the entry's own group, and those of another
+  module _ (bs : List ℕ) (whole : OnlyRecords lead bs) (e : Entry) (p : Proper lead e) where
+    pub starts_own : starts_of lead (bs ++ record_of lead e) e.group ≡ starts_of lead bs e.group ++ length bs ∷ []
+    starts_own =
+        starts_more bs whole e.group e p
+        ∙ ap (λ b. starts_of lead bs e.group ++ cond b (length bs ∷ []) []) (eq-eqb e.group e.group refl)
+
+    pub starts_other : (g : ℕ) → (g ≢ e.group) → starts_of lead bs g ≡ starts_of lead (bs ++ record_of lead e) g
+    starts_other g ne =
+        let others = ne_eqb e.group g (λ q. ne (sym q)) in
+        sym (starts_more bs whole g e p ∙ ap (λ b. starts_of lead bs g ++ cond b (length bs ∷ []) []) others
+        ∙ append-nil (starts_of lead bs g))
+
+  -- a slice of these bytes, and an index that has the starts of a group
+  module _ (bs slice starts : List ℕ) (g : ℕ) (is : slice ≡ bs) (whole : OnlyRecords lead bs)
+      (indexed : starts ≡ starts_of lead bs g) where
+    pub indexed_starts : AllByRecursion (Starts lead slice) starts
+    indexed_starts =
+        subst (λ l. AllByRecursion (Starts lead l) starts) (sym is)
+        (subst (AllByRecursion (Starts lead bs)) (sym indexed) (starts_in_place bs whole g))
+
+    pub indexed_messages : map (message_at lead slice) starts ≡ messages_of lead bs g
+    indexed_messages = ap₂ (λ l ps. map (message_at lead l) ps) is indexed ∙ sym (messages_at bs whole g)

@@ -1,6 +1,6 @@
 -- Both kinds of sequencer keep the bounds of every sequencer.
-use Rattle.std.specs.Prelude.{◌≡◌, ℕ, zero, suc, ◌+◌, ◌≤◌, true, List, [], ◌∷◌, length, take, drop, Some, None, Option, ◌==◌, nat_le, nat_lt, slice_index, refl}
-use Rattle.std.proofs.Common.{arith, length-drop}
+use Rattle.std.specs.Prelude.{◌≡◌, ℕ, zero, suc, ◌+◌, ◌*◌, ◌≤◌, true, List, [], ◌∷◌, length, take, drop, Some, None, Option, ◌==◌, nat_le, nat_lt, slice_index, refl}
+use Rattle.std.proofs.Common.{mul-le-mul_left, arith, length-drop}
 use Rattle.std.specs.List.{AllByRecursion}
 use Rattle.std.proofs.ByRecursion.{All-weaker}
 use Rattle.std.proofs.lemmas.List.{length-take-le}
@@ -38,12 +38,16 @@ all_of_group P g (e ∷ es) ps =
     cond_both (e.group == g) _ _ (AllByRecursion P) (λ _. (ps.0, more)) (λ _. more)
 
 module _ (lead : ℕ) where
-  few_entries : (n : ℕ) (bs : List ℕ) → length (up_to lead n bs) ≤ n
-  few_entries zero bs = omega arith
-  few_entries (suc n) bs =
-      let later = drop (record_size lead (said_length lead bs)) bs in
-      cond_both (has_space lead 0 (length bs) (said_length lead bs)) (first lead bs ∷ up_to lead n later) [] (λ es. length es ≤ suc n)
-      (λ _. omega (arith, few_entries n later)) (λ _. omega arith)
+  -- a record has at least the bytes around a message and one more
+  count_entries : (n : ℕ) (bs : List ℕ) → record_size lead 1 * length (up_to lead n bs) ≤ length bs
+  count_entries zero bs = omega arith
+  count_entries (suc n) bs =
+      let said : ℕ = said_length lead bs in
+      let later = drop (record_size lead said) bs in
+      cond_both (has_space lead 0 (length bs) said) (first lead bs ∷ up_to lead n later) []
+      (λ es. record_size lead 1 * length es ≤ length bs)
+      (λ t. let s = spacious lead 0 (length bs) said t in
+      omega (arith, count_entries n later, s.inside, s.sized.0, length-drop (record_size lead said) bs)) (λ _. omega arith)
 
   -- an entry that a record can store
   pub record Proper (e : Entry) : Type 0 where
@@ -70,18 +74,21 @@ module _ (lead : ℕ) where
   unfolding entries
   proper_entries bs = proper_up_to (length bs) bs
 
-  sized_messages : (bs : List ℕ) (g : ℕ) → AllByRecursion (λ m. Sized (length m)) (messages_of lead bs g)
+  -- no bytes store a message that may not be posted, nor more messages than there is space for records
+  pub sized_messages : (bs : List ℕ) (g : ℕ) → AllByRecursion (λ m. Sized (length m)) (messages_of lead bs g)
   sized_messages bs g = all_of_group _ g _ (All-weaker _ _ (λ e p. p.sized) _ (proper_entries bs))
 
-  few_messages : (bs : List ℕ) (g : ℕ) → length (messages_of lead bs g) ≤ length bs
+  pub count_messages : (bs : List ℕ) (g : ℕ) → record_size lead 1 * length (messages_of lead bs g) ≤ length bs
   unfolding entries
-  few_messages bs g = omega (arith, fewer g (up_to lead (length bs) bs), few_entries (length bs) bs)
+  count_messages bs g =
+      let es = up_to lead (length bs) bs in
+      omega (arith, mul-le-mul_left (record_size lead 1) (fewer g es), count_entries (length bs) bs)
 
 module _ {lead : ℕ} where
   counted : (t : Records lead) (g : ℕ) → length (tape_lists t g) + 1 ≤ most_messages
   counted t g =
       cond_both (nat_lt g (groups_of t)) (messages_of lead t.bytes.items g) [] (λ ms. length ms + 1 ≤ most_messages)
-      (λ _. omega (arith, few_messages lead t.bytes.items g, t.bytes.ok, t.bytes.small)) (λ _. omega arith)
+      (λ _. omega (arith, count_messages lead t.bytes.items g, t.bytes.ok, t.bytes.small)) (λ _. omega arith)
 
   pub tape_bounds : Bounds (tape_lists {lead = lead}) tape_fits
   tape_bounds = record {
@@ -103,7 +110,7 @@ stored_on (Some t) = sized_messages 0 t.bytes.items 0
 
 counted_on : (t : Option (Records 0)) → length (list_on t) + 1 ≤ most_messages
 counted_on None = omega arith
-counted_on (Some t) = omega (arith, few_messages 0 t.bytes.items 0, t.bytes.ok, t.bytes.small)
+counted_on (Some t) = omega (arith, count_messages 0 t.bytes.items 0, t.bytes.ok, t.bytes.small)
 
 pub track_bounds : Bounds track_lists track_fits
 track_bounds = record {

@@ -82,7 +82,7 @@ impl<const LEAD: usize> Records<LEAD> {
     }
 
     // Whether a message of `len` bytes to the group fits.
-    fn has_space(&self, group: u8, len: usize) -> bool
+    pub(crate) fn has_space(&self, group: u8, len: usize) -> bool
         ensures { result ≡ tape_fits self.now group len }
     {
         (group as usize) < self.indexes.len()

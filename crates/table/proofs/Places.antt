@@ -1,5 +1,5 @@
--- Where a key stands among rows that rise, told from how it compares with one row or with two neighbours.
-use Rattle.std.proofs.Common.{◌≡◌, ℕ, zero, suc, ◌<◌, ◌≤◌, true, List, [], ◌∷◌, length, get_or, Ok, Err, Result, Ordering, Less, Equal, Greater, sym, refl, ap, ◌∙◌, add-one, not-suc-le-zero, arith}
+-- Where a key stands among rows that rise, told from how it compares with one row, with two neighbours or with all.
+use Rattle.std.proofs.Common.{◌≡◌, ℕ, zero, suc, ◌-◌, ◌<◌, ◌≤◌, true, List, [], ◌∷◌, length, get_or, Ok, Err, Result, Ordering, Less, Equal, Greater, sym, refl, ap, ◌∙◌, add-one, not-suc-le-zero, arith}
 use Rattle.std.specs.List.Sorted.{IsBinarySearchResult, IsSearchInRange}
 use Rattle.std.specs.Ordering.{is_lt, ordering_reverse}
 use Rattle.std.proofs.lemmas.List.Sorted.{searchable_from_sorted}
@@ -7,7 +7,7 @@ use Rattle.std.proofs.lemmas.Bool.{and_parts}
 use Rattle.table.specs.Orders.{Laws}
 use Rattle.table.specs.Rows.{further, leads, pick, position, rising}
 use Rattle.table.specs.declared.row.Row.{Row}
-use Rattle.table.proofs.Comparisons.{above_from_below, less}
+use Rattle.table.proofs.Comparisons.{above_from_below, below_from_above, less}
 
 module _ {K V : Type 0} (cmp : K → K → Ordering) (laws : Laws cmp) where
   -- what is below a key that is below the first row is below the first row
@@ -23,6 +23,17 @@ module _ {K V : Type 0} (cmp : K → K → Ordering) (laws : Laws cmp) where
   below_each k (r ∷ rs) (suc i) d h up low =
       let parts = and_parts (leads cmp r.key rs) (rising cmp rs) up in
       below_each k rs i d (leads_lower k r.key rs (less (cmp k r.key) h) parts.0) parts.1 (omega arith)
+
+  -- a key that is above a row is above the first
+  above_first : (r : Row K V) (rs : List (Row K V)) (k : K) (i : ℕ) (d : Row K V) → rising cmp (r ∷ rs) ≡ true
+      → i < length (r ∷ rs) → cmp k (get_or (r ∷ rs) i d).key ≡ Greater → cmp k r.key ≡ Greater
+  above_first r rs k zero d up low e = e
+  above_first r rs k (suc i) d up low e =
+      let parts = and_parts (leads cmp r.key rs) (rising cmp rs) up in
+      let s = (get_or rs i d).key in
+      above_from_below cmp laws r.key k
+      (laws.total.trans r.key s k (below_each r.key rs i d parts.0 parts.1 (omega arith))
+      (below_from_above cmp laws k s e))
 
   -- past a row that the key is above
   position_past : (r : Row K V) (rs : List (Row K V)) (k : K) → cmp k r.key ≡ Greater
@@ -42,17 +53,43 @@ module _ {K V : Type 0} (cmp : K → K → Ordering) (laws : Laws cmp) where
       ap Ok (omega arith) ∙ ap further (position_found rs k i d parts.1 (omega arith) e)
       ∙ sym (position_past r rs k (above_from_below cmp laws r.key k below))
 
+  -- the key is above the row before i, if there is one, and below the row i
+  between : (rs : List (Row K V)) (k : K) (i : ℕ) (d : Row K V) → rising cmp rs ≡ true → i ≤ length rs
+      → ((j : ℕ) → suc j ≡ i → cmp k (get_or rs j d).key ≡ Greater)
+      → (i < length rs → cmp k (get_or rs i d).key ≡ Less) → Err i ≡ position cmp rs k
+  between [] k zero d up le over under = refl
+  between [] k (suc i) d up le over under = absurd (not-suc-le-zero le)
+  between (r ∷ rs) k zero d up le over under =
+      ap (λ o. pick o (Err 0) (Ok 0) (further (position cmp rs k))) (sym (under (omega arith)))
+  between (r ∷ rs) k (suc i) d up le over under =
+      let parts = and_parts (leads cmp r.key rs) (rising cmp rs) up in
+      let rest =
+      between rs k i d parts.1 (omega arith) (λ j e. over (suc j) (ap suc e)) (λ low. under (omega arith)) in
+      ap Err (omega arith) ∙ ap further rest
+      ∙ sym (position_past r rs k (above_first r rs k i d up (omega arith) (over i refl)))
+
+  pub position_between : (rs : List (Row K V)) (k : K) (i : ℕ) → rising cmp rs ≡ true → i ≤ length rs
+      → ((d : Row K V) → 0 < i → cmp k (get_or rs (i - 1) d).key ≡ Greater)
+      → ((d : Row K V) → i < length rs → cmp k (get_or rs i d).key ≡ Less) → Err i ≡ position cmp rs k
+  position_between [] k i up le over under = ap Err (omega arith)
+  position_between (r ∷ rs) k i up le over under =
+      between (r ∷ rs) k i r up le
+      (λ j e.
+      let same : j ≡ i - 1 = omega arith in
+      ap (λ n. cmp k (get_or (r ∷ rs) n r).key) same ∙ over r (omega arith))
+      (under r)
+
   -- the key is above each row before i, and below each from i on
-  pub position_between : (rs : List (Row K V)) (k : K) (i : ℕ) → i ≤ length rs
+  pub position_among : (rs : List (Row K V)) (k : K) (i : ℕ) → i ≤ length rs
       → ((j : ℕ) (d : Row K V) → j < i → cmp k (get_or rs j d).key ≡ Greater)
       → ((j : ℕ) (d : Row K V) → i ≤ j → j < length rs → cmp k (get_or rs j d).key ≡ Less) → Err i ≡ position cmp rs k
-  position_between [] k i le over under = ap Err (omega arith)
-  position_between (r ∷ rs) k zero le over under =
+  position_among [] k i le over under = ap Err (omega arith)
+  position_among (r ∷ rs) k zero le over under =
       ap (λ o. pick o (Err 0) (Ok 0) (further (position cmp rs k))) (sym (under 0 r (omega arith) (omega arith)))
-  position_between (r ∷ rs) k (suc i) le over under =
+  position_among (r ∷ rs) k (suc i) le over under =
       ap Err (omega arith)
       ∙ ap further
-      (position_between rs k i (omega arith) (λ j d l. over (suc j) d (omega arith))
+      (position_among rs k i (omega arith) (λ j d l. over (suc j) d (omega arith))
       (λ j d l m. under (suc j) d (omega arith) (omega arith)))
       ∙ sym (position_past r rs k (over 0 r (omega arith)))
 
@@ -76,5 +113,5 @@ module _ {K V : Type 0} (cmp : K → K → Ordering) (laws : Laws cmp) where
   searched rs k (Err i) up low is =
       let parts = is (searchable_from_sorted laws.total (λ r. r.key) rs k
       (λ j d l m. simp add-one (ap is_lt (above_from_below cmp laws _ _ (rising_next rs j d up (omega arith)))))) in
-      position_between rs k i low (λ j d l. above_from_below cmp laws _ k (parts.0 j d (omega arith) l))
+      position_among rs k i low (λ j d l. above_from_below cmp laws _ k (parts.0 j d (omega arith) l))
       (λ j d l m. laws.total.antisymm k _ ∙ ap ordering_reverse (parts.1 j d l m))

@@ -16,6 +16,7 @@ ghost use Rattle.table.specs.TableLaws.{TableLaws};
 
 use crate::key::Key;
 use crate::row::{Refusal, Row};
+use std::cmp::Ordering;
 
 pub mod key;
 pub mod owned;
@@ -27,17 +28,29 @@ mod tests;
 
 /// Where the key stands, or where it would go.
 pub fn find<K: Key, V>(rows: &[Row<K, V>], key: &K) -> Result<usize, usize>
-    requires { rising K.cmp rows.now ≡ true }
-    ensures place { result ≡ position K.cmp rows.now key.now }
+    requires { rising K.order rows.now ≡ true }
+    ensures place { result ≡ position K.order rows.now key.now }
     ensures bound { MatchResult result (λ i. i < length rows.now) (λ i. i ≤ length rows.now) }
 {
-    rows.binary_search_by(|row| row.key.cmp(key))
+    // By hand: the library's binary search compares with as many rows wherever the key stands, and so takes longer for a
+    // key near the middle.
+    let mut low = 0;
+    let mut high = rows.len();
+    while low < high {
+        let middle = low + (high - low) / 2;
+        match key.compare(&rows[middle].key) {
+            Ordering::Less => high = middle,
+            Ordering::Equal => return Ok(middle),
+            Ordering::Greater => low = middle + 1,
+        }
+    }
+    Err(low)
 }
 
 /// The value beside the key.
 pub fn get<K: Key, V: Copy>(rows: &[Row<K, V>], key: &K) -> Option<V>
-    requires { rising K.cmp rows.now ≡ true }
-    ensures { result ≡ lookup K.cmp rows.now key.now }
+    requires { rising K.order rows.now ≡ true }
+    ensures { result ≡ lookup K.order rows.now key.now }
 {
     match find(rows, key) {
         Ok(at) => Some(rows[at].value),
@@ -47,9 +60,9 @@ pub fn get<K: Key, V: Copy>(rows: &[Row<K, V>], key: &K) -> Option<V>
 
 /// Whether each key is below the next.
 pub fn rises<K: Key, V>(rows: &[Row<K, V>]) -> bool
-    ensures { result ≡ rising K.cmp rows.now }
+    ensures { result ≡ rising K.order rows.now }
 {
-    rows.is_sorted_by(|left, right| left.key < right.key)
+    rows.is_sorted_by(|left, right| left.key.compare(&right.key).is_lt())
 }
 
 /// Puts a row with a new key in its place, and answers where that is. The first `filled` rows are the table; the rows
@@ -61,13 +74,13 @@ pub fn insert<K: Key + Drop, V: Drop>(
     key: K,
     value: V,
 ) -> Result<usize, Refusal>
-    requires { rising K.cmp (take filled rows.old) ≡ true }
-    ensures answer { result ≡ insert_answer K.cmp rows.old filled key }
+    requires { rising K.order (take filled rows.old) ≡ true }
+    ensures answer { result ≡ insert_answer K.order rows.old filled key }
     ensures after { rows.new
-        ≡ insert_after K.cmp rows.old filled (record { key = key; value = value }) }
+        ≡ insert_after K.order rows.old filled (record { key = key; value = value }) }
     ensures table { take (filled_after filled result) rows.new
-        ≡ table_after K.cmp (take filled rows.old) (record { key = key; value = value }) result }
-    ensures rises { rising K.cmp (take (filled_after filled result) rows.new) ≡ true }
+        ≡ table_after K.order (take filled rows.old) (record { key = key; value = value }) result }
+    ensures rises { rising K.order (take (filled_after filled result) rows.new) ≡ true }
 {
     let at = match find(first(rows, filled), &key) {
         Ok(at) => return Err(Refusal::Present(at)),
@@ -83,10 +96,10 @@ pub fn insert<K: Key + Drop, V: Drop>(
 /// Gives the key's row another value, and answers whether the key has a row.
 // A flag, as the library's sets answer an insertion by one: there is nothing to say beside it.
 pub fn change<K: Key, V: Drop>(rows: &mut [Row<K, V>], key: &K, value: V) -> bool
-    requires { rising K.cmp rows.old ≡ true }
-    ensures answer { result ≡ is_some (lookup K.cmp rows.old key.now) }
-    ensures after { rows.new ≡ changed K.cmp rows.old key.now value }
-    ensures rises { rising K.cmp rows.new ≡ true }
+    requires { rising K.order rows.old ≡ true }
+    ensures answer { result ≡ is_some (lookup K.order rows.old key.now) }
+    ensures after { rows.new ≡ changed K.order rows.old key.now value }
+    ensures rises { rising K.order rows.new ≡ true }
 {
     match find(rows, key) {
         Ok(at) => {
@@ -99,7 +112,7 @@ pub fn change<K: Key, V: Drop>(rows: &mut [Row<K, V>], key: &K, value: V) -> boo
 
 /// What an insertion and a change leave, and what is found then.
 pub fn table_laws_hold<K: Key, V>() -> u8
-    ensures { TableLaws K V K.cmp }
+    ensures { TableLaws K V K.order }
 {
     0
 }

@@ -31,7 +31,7 @@ impl<K: Key, V> Model for Table<K, V> {
 
     ghost view = { λ t. record { rows = take t.filled t.rows.items; size = vec_len t.rows } };
 
-    ghost invariant = { λ t. (t.filled ≤ vec_len t.rows) × (rising K.cmp (take t.filled t.rows.items) ≡ true) };
+    ghost invariant = { λ t. (t.filled ≤ vec_len t.rows) × (rising K.order (take t.filled t.rows.items) ≡ true) };
 }
 
 impl<K: Key + Copy + Drop, V: Copy + Drop> Table<K, V> {
@@ -47,7 +47,7 @@ impl<K: Key + Copy + Drop, V: Copy + Drop> Table<K, V> {
 
     /// A full table of these rows, whose keys rise.
     pub fn from_rows(heap: Global, rows: &[Row<K, V>]) -> Result<Table<K, V>, AllocError>
-        requires { rising K.cmp rows.now ≡ true }
+        requires { rising K.order rows.now ≡ true }
         ensures { IfOk result (λ table. table ≡ record { rows = rows.now; size = length rows.now }) }
     {
         Ok(Table {
@@ -58,19 +58,19 @@ impl<K: Key + Copy + Drop, V: Copy + Drop> Table<K, V> {
 }
 
 impl<K: Key, V> Table<K, V> {
-    // The rows, without the free ones.
-    fn rows(&self) -> &[Row<K, V>]
+    /// The rows, without the free ones.
+    pub fn rows(&self) -> &[Row<K, V>]
         ensures rows { result.now ≡ self.now.rows }
-        ensures rises { rising K.cmp self.now.rows ≡ true }
+        ensures rises { rising K.order self.now.rows ≡ true }
     {
         &self.rows[0..self.filled]
     }
 
     // Where the key stands, or where it would go.
     fn find(&self, key: &K) -> Result<usize, usize>
-        ensures place { result ≡ position K.cmp self.now.rows key.now }
+        ensures place { result ≡ position K.order self.now.rows key.now }
         ensures bound { MatchResult result (λ i. i < length self.now.rows) (λ i. i ≤ length self.now.rows) }
-        ensures rises { rising K.cmp self.now.rows ≡ true }
+        ensures rises { rising K.order self.now.rows ≡ true }
     {
         find(self.rows(), key)
     }
@@ -78,7 +78,7 @@ impl<K: Key, V> Table<K, V> {
     // The value of the row at this place, to be read and written.
     fn value_mut(&mut self, at: usize) -> &mut V
         requires { at < length self.old.rows }
-        ensures* writes_back { sem 𝓛 (lends_value K.row V.row K.Ord self.entry at result) }
+        ensures* writes_back { sem 𝓛 (lends_value K.row V.row K.order self.entry at result) }
         ensures value { option_map (λ row. row.value) (slice_get self.old.rows at) ≡ Some result.now }
     {
         let row = &mut self.rows[at];
@@ -96,7 +96,7 @@ impl<K: Key, V> Table<K, V> {
     pub fn get(&self, key: &K) -> Option<V>
     where
         V: Copy,
-        ensures { result ≡ lookup K.cmp self.now.rows key.now }
+        ensures { result ≡ lookup K.order self.now.rows key.now }
     {
         get(self.rows(), key)
     }
@@ -107,9 +107,9 @@ impl<K: Key, V> Table<K, V> {
     where
         K: Drop,
         V: Drop,
-        ensures answer { result ≡ admitted (position K.cmp self.old.rows key) (nat_lt (length self.old.rows) self.old.size) }
-        ensures after { self.new ≡ with_rows self.old (table_after K.cmp self.old.rows (record { key = key; value = value }) result) }
-        ensures goes { lookup K.cmp self.old.rows key ≡ None → length self.old.rows < self.old.size → IsOk result }
+        ensures answer { result ≡ admitted (position K.order self.old.rows key) (nat_lt (length self.old.rows) self.old.size) }
+        ensures after { self.new ≡ with_rows self.old (table_after K.order self.old.rows (record { key = key; value = value }) result) }
+        ensures goes { lookup K.order self.old.rows key ≡ None → length self.old.rows < self.old.size → IsOk result }
     {
         let at = insert(&mut self.rows, self.filled, key, value)?;
         self.filled += 1;
@@ -118,8 +118,8 @@ impl<K: Key, V> Table<K, V> {
 
     /// The value beside the key, to be read and written.
     pub fn get_mut(&mut self, key: &K) -> Option<&mut V>
-        ensures* writes_back { sem 𝓛 (lends_beside K.row V.row K.Ord self.entry key.now result) }
-        ensures value { option_map (λ value. value.now) result ≡ lookup K.cmp self.old.rows key.now }
+        ensures* writes_back { sem 𝓛 (lends_beside K.row V.row K.order self.entry key.now result) }
+        ensures value { option_map (λ value. value.now) result ≡ lookup K.order self.old.rows key.now }
     {
         match self.find(key) {
             Ok(at) => Some(self.value_mut(at)),
@@ -131,8 +131,8 @@ impl<K: Key, V> Table<K, V> {
     pub fn change(&mut self, key: &K, value: V) -> bool
     where
         V: Drop,
-        ensures answer { result ≡ is_some (lookup K.cmp self.old.rows key.now) }
-        ensures after { self.new ≡ with_rows self.old (changed K.cmp self.old.rows key.now value) }
+        ensures answer { result ≡ is_some (lookup K.order self.old.rows key.now) }
+        ensures after { self.new ≡ with_rows self.old (changed K.order self.old.rows key.now value) }
     {
         change(&mut self.rows[0..self.filled], key, value)
     }

@@ -7,7 +7,7 @@ use Rattle.table.proofs.change.Goals as goal
 
 pub returns-in-Ok : goal.returns-in-Ok
 returns-in-Ok g c =
-    let cmp = g.K.Ord.cmp in
+    let cmp = g.K.Key.order in
     let rows = c.args.rows.now in
     let key = c.args.key.now in
     let at : ℕ = c.in-Ok.at in
@@ -23,11 +23,11 @@ returns-in-Ok g c =
 
 pub returns-in-Err : goal.returns-in-Err
 returns-in-Err g c =
-    let cmp = g.K.Ord.cmp in
+    let cmp = g.K.Key.order in
     let rows = c.args.rows.now in
     let key = c.args.key.now in
     let at = c.in-Err.field-0 in
-    let none = lookup_absent cmp (record { total = g.met.K.Ord.total; same = g.met.K.Key.same }) rows key at c.requires c.in-Err.ensures.place in
+    let none = lookup_absent cmp g.met.K.Key.total rows key at c.requires c.in-Err.ensures.place in
     record {
       answer = ap is_some none;
       after = changed_absent cmp rows key c.args.value none;

@@ -1,12 +1,34 @@
-use Rattle.std.proofs.Common.{rules}
-use Rattle.std.proofs.lemmas.Fn.{always_returns_same}
-use Rattle.table.proofs.Places.{searched}
+use Rattle.std.proofs.Common.{◌≡◌, ℕ, ◌+◌, ◌-◌, ◌/◌, ◌<◌, ◌≤◌, length, get_or, Less, subst, arith}
+use Rattle.table.specs.declared.row.Row.{Row}
+use Rattle.table.proofs.Places.{position_between, position_found}
 use Rattle.table.proofs.find.Goals as goal
 
-pub returns-clause-place : goal.returns-clause-place
-returns-clause-place g c =
-    let cmp = g.K.Ord.cmp in
+pub returns-in-Equal : goal.returns-in-Equal
+returns-in-Equal g c =
+    let rows = c.args.rows.now in
+    let middle : ℕ = c.loop-low.low + (c.loop-low.high - c.loop-low.low) / 2 in
+    let within : middle < length rows = omega arith in
+    let row = c.index-rows-middle.result in
+    let same = c.in-Equal.ensures in
     let key = c.args.key.now in
-    let found = c.binary_search_by.ensures in
-    searched cmp (record { total = g.met.K.Ord.total; same = g.met.K.Key.same }) c.args.rows.now key c.binary_search_by.result c.requires found.bound
-    (found.position (λ row. cmp row.key key) (always_returns_same _ _ _ (λ a r f' called. search rules)))
+    record {
+      place = position_found g.K.Key.order g.met.K.Key.total rows key middle row c.requires within same;
+      bound = within;
+    }
+
+pub returns : goal.returns
+returns g c =
+    let rows = c.args.rows.now in
+    let cmp = g.K.Key.order in
+    let key = c.args.key.now in
+    let low : ℕ = c.loop-low.low in
+    let inv = c.loop-low.invariant in
+    let within : low ≤ length rows = omega arith in
+    let met : c.loop-low.high ≡ low = omega arith in
+    let Under : ℕ → Type 0 = λ i.
+    (d : Row g.row.K.Denot g.row.V.Denot) → i < length rows → cmp key (get_or rows i d).key ≡ Less in
+    let under = subst Under met inv.3 in
+    record {
+      place = position_between cmp g.met.K.Key.total rows key low c.requires within inv.2 under;
+      bound = within;
+    }

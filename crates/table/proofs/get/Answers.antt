@@ -3,10 +3,10 @@ use Rattle.table.proofs.get.Goals as goal
 
 pub returns-in-Ok : goal.returns-in-Ok
 returns-in-Ok g c =
-    lookup_present g.K.Ord.cmp c.args.rows.now c.args.key.now c.in-Ok.at c.index-rows-at.result
+    lookup_present g.K.Key.order c.args.rows.now c.args.key.now c.in-Ok.at c.index-rows-at.result
     c.in-Ok.ensures.place
 
 pub returns-in-Err : goal.returns-in-Err
 returns-in-Err g c =
-    lookup_absent g.K.Ord.cmp (record { total = g.met.K.Ord.total; same = g.met.K.Key.same }) c.args.rows.now c.args.key.now c.in-Err.field-0
+    lookup_absent g.K.Key.order g.met.K.Key.total c.args.rows.now c.args.key.now c.in-Err.field-0
     c.requires c.in-Err.ensures.place

@@ -1,12 +1,11 @@
 use Rattle.std.proofs.Common.{ℕ}
-use Rattle.table.specs.Orders.{Laws}
 use Rattle.table.specs.declared.row.Row.{Row}
 use Rattle.table.proofs.Insertion.{after_is, answer_is, rising_after, table_is}
 use Rattle.table.proofs.insert.Goals as goal
 
 pub returns : goal.returns
 returns g c =
-    let cmp = g.K.Ord.cmp in
+    let cmp = g.K.Key.order in
     let rows = c.args.rows.now in
     let table = c.first.result.now in
     let first = c.first.ensures in
@@ -17,10 +16,10 @@ returns g c =
     let free = c.if-filled-rows.false in
     let after = c.put_in.new.items in
     let put = c.put_in.ensures in
-    let laws : Laws cmp = record { total = g.met.K.Ord.total; same = g.met.K.Key.same } in
+    let total = g.met.K.Key.total in
     record {
       answer = answer_is cmp rows table filled at x first found.place found.bound free;
       after = after_is cmp rows table filled at x first found.place found.bound free after put;
       table = table_is cmp rows table filled at x first found.place found.bound free after put;
-      rises = rising_after cmp rows table filled at x first found.place found.bound free after put laws c.requires;
+      rises = rising_after cmp rows table filled at x first found.place found.bound free after put total c.requires;
     }

@@ -21,7 +21,7 @@ unfolding with_book with_size
 returns c =
     let C = config c.args.self.now in
     let m = view c.args.self.now in
-    let met = c.meet_named.ensures in
+    let met = c.meet_in_table.ensures in
     let same = met.after ∙ ap (with_rows c.args.self.now.book) (question_keeps m.book c.args.name.now c.args.delivered c.requires) in
     record {
       reply =

@@ -1,7 +1,6 @@
 use Rattle.std.proofs.Common.{ℕ, inl, sym, refl, ap, ◌∙◌}
 use Rattle.std.specs.Option.{option_map}
 use Rattle.std.proofs.lemmas.Option.{slice_get-get_or}
-use Rattle.table.specs.Orders.{Laws}
 use Rattle.table.specs.Tables.{with_rows}
 use Rattle.table.specs.declared.row.Row.{Row}
 use Rattle.table.proofs.Lookups.{lookup_absent, lookup_present}
@@ -10,7 +9,7 @@ use Rattle.table.proofs.owned.Table.get_mut.Goals as goal
 
 pub returns-in-Ok : goal.returns-in-Ok
 returns-in-Ok g c =
-    let cmp = g.K.Ord.cmp in
+    let cmp = g.K.Key.order in
     let table = c.args.self.now in
     let key = c.args.key.now in
     let at : ℕ = c.in-Ok.at in
@@ -28,8 +27,8 @@ returns-in-Ok g c =
 
 pub returns-in-Err : goal.returns-in-Err
 returns-in-Err g c =
-    let cmp = g.K.Ord.cmp in
-    let laws : Laws cmp = record { total = g.met.K.Ord.total; same = g.met.K.Key.same } in (
+    let cmp = g.K.Key.order in
+    let laws = g.met.K.Key.total in (
       refl,
       record {
         writes_back = tt;

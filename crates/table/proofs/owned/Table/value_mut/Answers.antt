@@ -11,7 +11,7 @@ use Rattle.table.proofs.owned.Table.value_mut.Goals as goal
 
 pub invariant_of-self-lent : goal.invariant_of-self-lent
 invariant_of-self-lent g c w =
-    let cmp = g.K.Ord.cmp in
+    let cmp = g.K.Key.order in
     let rows = vec_items c.self.inside.rows in
     let filled : ℕ = c.self.inside.filled in
     let at : ℕ = c.args.at in

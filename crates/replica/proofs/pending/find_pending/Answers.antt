@@ -1,12 +1,11 @@
-use Rattle.std.proofs.Common.{map, ap, ◌∙◌, rules, tests}
-use Rattle.std.specs.List.{find}
+use Rattle.std.proofs.Common.{ap, ◌∙◌, rules, tests}
 use Rattle.std.specs.Option.{option_map}
 use Rattle.std.proofs.lemmas.Iterator.{YieldsList-from_slice}
 use Rattle.std.proofs.lemmas.Iterator.Search.{find_from_yields_List}
 use Rattle.replica.specs.Models.{is_named}
 use Rattle.replica.specs.Transactions.{transaction}
 use Rattle.replica.proofs.Searches.{find_map, same}
-use Rattle.replica.proofs.pending.Pending.find.Goals as goal
+use Rattle.replica.proofs.pending.find_pending.Goals as goal
 
 pub returns : goal.returns
 returns c =
@@ -15,5 +14,4 @@ returns c =
     (c.copied.ensures
     ∙ find_from_yields_List (λ place. test (transaction place)) _ _ c.find.result c.find.ensures.ran
     (YieldsList-from_slice _ c.iter.ensures.rest) (λ x b q k. search (rules, tests, same)))
-    ∙ find_map test transaction c.deref.result.now
-    ∙ ap (λ places. find test (map transaction places)) c.deref.ensures.value ∙ ap (find test) c.self.view_is
+    ∙ find_map test transaction c.args.places.now

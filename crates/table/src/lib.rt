@@ -19,6 +19,7 @@ use crate::row::{Refusal, Row};
 use std::cmp::Ordering;
 
 pub mod key;
+pub mod ordered;
 pub mod owned;
 pub mod row;
 #[cfg(test)]

@@ -1,12 +1,20 @@
 // The rows and the book of a replica, which are both a table.
-ghost use Rattle.std.specs.Prelude.{◌≡◌, true, replicate, slice_set};
+ghost use Rattle.std.specs.Prelude.{◌≡◌, true, length, replicate, slice_set, IfOk, refl};
+ghost use Rattle.std.specs.Ordering.{nat_cmp};
+ghost use Rattle.std.proofs.Common.{ap};
+ghost use Rattle.table.specs.KeyOrders.{same_number};
 ghost use Rattle.table.specs.Orders.{by_number};
-ghost use Rattle.table.specs.Rows.{rising};
+ghost use Rattle.table.specs.Rows.{lookup, rising};
+ghost use Rattle.table.specs.contracts.tests.SerialOrd.TheImpl.Laws.{total-law};
 
+use crate::key::Key;
+use crate::ordered::OrderedKey;
 use crate::owned::Table;
 use crate::row::{Refusal, Row};
 use crate::{find, get, rises};
 use envelope::name::Name;
+use std::alloc::{AllocError, Global};
+use std::cmp::Ordering;
 use std::test::Fail;
 use votes::state::State;
 
@@ -81,4 +89,71 @@ fn a_slice_is_searched(rt: HostRuntime) {
     let rows = three();
     assert_eq!(rt; get(&rows, &9), Some(90));
     assert_eq!(rt; find(&rows, &4), Err(1));
+}
+
+// A key with the library's order of its number.
+#[derive(Clone, Copy, PartialEq, Eq, PartialOrd, Ord)]
+struct Serial {
+    number: u16,
+}
+
+impl Key for Serial {
+    ghost order = { ⟦<Serial as Ord>⟧.cmp };
+
+    ghost total = { record { total = total-law; same = λ x y e. ap (λ n. record { number = n }) (same_number x.number y.number e) } };
+
+    fn compare(&self, other: &Serial) -> Ordering {
+        self.cmp(other)
+    }
+}
+
+impl OrderedKey for Serial {
+    ghost same = { λ x y e. ap (λ n. record { number = n }) (same_number x.number y.number e) };
+
+    ghost by_cmp = { refl };
+}
+
+// A full table of rows that rise in the library's order.
+fn table_of<K: OrderedKey + Copy + Drop, V: Copy + Drop>(
+    heap: Global,
+    rows: &[Row<K, V>],
+) -> Result<Table<K, V>, AllocError>
+    requires { rising K.cmp rows.now ≡ true }
+    ensures { IfOk result (λ table. table ≡ record { rows = rows.now; size = length rows.now }) }
+{
+    Table::from_rows(heap, rows)
+}
+
+// The value beside the key, in the library's order.
+fn value_of<K: OrderedKey, V: Copy>(table: &Table<K, V>, key: &K) -> Option<V>
+    ensures { result ≡ lookup K.cmp table.now.rows key.now }
+{
+    table.get(key)
+}
+
+// Two rows.
+fn serials() -> [Row<Serial, u64>; 2]
+    ensures { rising (λ x y. nat_cmp x.number y.number) result ≡ true }
+{
+    [
+        Row {
+            key: Serial { number: 2 },
+            value: 20,
+        },
+        Row {
+            key: Serial { number: 300 },
+            value: 30,
+        },
+    ]
+}
+
+#[test]
+fn keys_in_the_library_order_are_found(rt: HostRuntime) -> Result<(), Fail> {
+    let table = table_of(rt.alloc(), &three())?;
+    assert_eq!(rt; value_of(&table, &5), Some(50));
+    assert_eq!(rt; value_of(&table, &6), None);
+    let table = table_of(rt.alloc(), &serials())?;
+    assert_eq!(rt; value_of(&table, &Serial { number: 300 }), Some(30));
+    assert_eq!(rt; value_of(&table, &Serial { number: 3 }), None);
+    Ok(())
 }

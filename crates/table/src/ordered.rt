@@ -6,7 +6,7 @@ ghost use Rattle.table.specs.KeyOrders.{same_name, same_number};
 use crate::key::Key;
 use envelope::name::Name;
 
-/// A kind of key that is compared as `Ord` compares it, so that code over any of these kinds may do either.
+/// A kind of key whose order is that of `Ord`: code over every such kind may call `compare` or `cmp`.
 pub trait OrderedKey: Key + Ord {
     // Only a key itself compares equal to it.
     ghost same: { (x : Self) → (y : Self) → Self.cmp x y ≡ Equal → x ≡ y };
